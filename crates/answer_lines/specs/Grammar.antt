@@ -1,5 +1,5 @@
--- The grammar of an answer's text, line by line: which lines may stand at a place, and where each leads; and that of the
--- other texts of which costs are read, those of `total`, `spread` and `change`.
+-- The grammar of an answer's text, line by line: which lines may stand at a place, and where each leads; and that of
+-- the other texts of which costs are read, those of `total`, `spread` and `change`.
 use Rattle.std.specs.Prelude.{◌≡◌, ◌≢◌, ℕ, zero, suc, ◌+◌, ◌<◌, ◌≤◌, ◌⊎◌, List, [], ◌∷◌, ◌++◌, if◌then◌else◌, codes, Option, Some, None}
 use Rattle.cost_base.specs.Decimal.{decimal}
 use Rattle.cost_base.specs.Lists.{same_bytes}
@@ -39,7 +39,8 @@ pub data TextPlace : Type 0 where
   AtTree : TreePart → ℕ → ℕ → TextPlace
   AtEnd : TextPlace
   AfterEnd : TextPlace
-  -- before the first line of another text, in `total`'s before that of the answer inside, before the verdict and the costs
+  -- before the first line of another text, in `total`'s before that of the answer inside, before the verdict and the
+  -- costs
   AtOtherHead : OtherText → TextPlace
   AtInnerHead : TextPlace
   AtOtherVerdict : OtherText → TextPlace
@@ -186,7 +187,8 @@ abbrev pub inner_ends : OtherText → ℕ
 inner_ends Total = 1
 inner_ends text = 0
 
--- the line that ends the sections, and where it leads: in an answer to the rows, in another text among lines that nobody reads
+-- the line that ends the sections, and where it leads: in an answer to the rows, in another text among lines that
+-- nobody reads
 abbrev pub IsEndNext : Option OtherText → List ℕ → TextPlace → Type 0
 IsEndNext None line next = IsFloorNext line next
 IsEndNext (Some text) line next = IsSectionsEnd text line × (next ≡ AtUnread (inner_ends text))
@@ -200,7 +202,8 @@ behind_end (suc more) = AtUnread more
 abbrev pub behind_unread : ℕ → List ℕ → TextPlace
 behind_unread more line = if same_bytes line (codes "end") then behind_end more else AtUnread more
 
--- the lines that are in the grammar at a place, and where they lead. Nothing is where a tree has lines left over and no open place, or the other way round.
+-- the lines that are in the grammar at a place, and where they lead. Nothing is where a tree has lines left over and no
+-- open place, or the other way round.
 abbrev pub Next : TextPlace → List ℕ → TextPlace → Type 0
 Next AtHead line next = (line ≡ answer_head) × (next ≡ AtVerdict)
 Next AtVerdict line next = IsVerdictNext line next

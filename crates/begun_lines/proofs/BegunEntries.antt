@@ -34,7 +34,8 @@ words_before (w ∷ ws) text rest more e =
       | inr behind ↦ word_behind text w behind.0 more behind.1 first.spaceless ∙ ap (λ l. w ∷ l) (words_before ws behind.0 rest more (sym behind.2))
     ]
 
--- a text's first words, where more follow: they stand in it with a space behind them, or they are all of it with some bytes more
+-- a text's first words, where more follow: they stand in it with a space behind them, or they are all of it with some
+-- bytes more
 abbrev pub StandsOrGrows : List (List ℕ) → List ℕ → List ℕ → Type 0
 StandsOrGrows ws text more = ((rest : List ℕ) × (split 32 text ≡ ws ++ split 32 rest))
     ⊎ ((less : List ℕ) × (split 32 (text ++ less) ≡ ws) × (length less ≤ length more))

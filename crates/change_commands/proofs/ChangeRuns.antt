@@ -6,7 +6,7 @@ use Rattle.lsdb_build.specs.Graphs.{Database}
 use Rattle.design_problem.specs.Problems.{DesignProblem}
 use Rattle.design_problem.specs.Answers.{greatest_bound}
 use Rattle.request_reader.specs.Asked.{Asked}
-use Rattle.command_words.specs.Jobs.{SearchLimits}
+use Rattle.wide_fraction.specs.SearchLimits.{SearchLimits}
 use Rattle.input_files.specs.declared.network.Network.{Network}
 use Rattle.input_files.specs.declared.problem.View.TheVariants.{BesidePresent}
 use Rattle.input_files.specs.declared.stop.Stop.{Stop}

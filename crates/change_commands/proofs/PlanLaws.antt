@@ -43,6 +43,9 @@ pub fault_none : (d : Database) (before : List ℕ) (line : CostLine) → knows_
     list_any (λ l. l == link_of_line d line) before ≡ false → line_fault d before line ≡ None
 fault_none d before line known new = rw (known, new) refl
 
+-- what is wrong with a line
+pub ruleset line_faults = (known_within, fault_twice, fault_none)
+
 -- Line after line.
 
 -- one link more is marked

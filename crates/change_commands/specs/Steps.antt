@@ -98,8 +98,8 @@ pub record ReportsSteps (nodes : ℕ) (by : StepUnit) (d : Database) (r : Rollou
   pub found : AreStepsFound r nodes steps
   pub reports : Reports (outcome_status steps.outcome) (steps_text by d r.moves steps) report
 
--- The bytes are the text of what was found of the steps, which has this status: those from the present costs to the ones that
--- the text of the plan says.
+-- The bytes are the text of what was found of the steps, which has this status: those from the present costs to the
+-- ones that the text of the plan says.
 pub record ShowsSteps (nodes : ℕ) (by : StepUnit) (plan : Plan) (aim : Status) (bytes : List ℕ) : Type 0 where
   pub lines : List CostLine
   pub said : SaysCosts plan.bytes (Some lines)

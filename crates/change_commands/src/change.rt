@@ -1,6 +1,6 @@
 //! `change`: the fewest changes of present costs for the requests of the files of words.
 ghost use Rattle.std.specs.Prelude.{◌≡◌, ℕ, ◌≤◌, IfErr, IfOk};
-ghost use Rattle.command_words.specs.Jobs.{limits_seen};
+ghost use Rattle.wide_fraction.specs.SearchLimits.{limits_seen};
 ghost use Rattle.input_files.specs.Readings.{Gave};
 ghost use Rattle.input_files.specs.Outcomes.{outcome};
 ghost use Rattle.input_files.specs.Stops.{IsReadAs, files_named};
@@ -12,8 +12,7 @@ ghost use Rattle.change_commands.specs.Changes.{IsReportIn, MayChange, change_st
 
 use crate::change_text::{fewest_text, impossible_text, undecided_text};
 use cost_base::{OutOfMemory, Shelf, Status};
-use cost_branching::keeps_conditions;
-use design_problem::Problem;
+use design_problem::{Problem, keeps_problem_on_graph};
 use input_files::{FileWords, Network, Stop, View, read_network};
 use least_change::{Change, change_count, find_change};
 use present_costs::present_of_variables;
@@ -52,7 +51,7 @@ fn text_of_change(
     ensures { IfOk result (λ text. text.items ≡ change_text network.now.requests network.now.lsdb
         network.now.problem change.now) }
 {
-    keeps_conditions(&network.problem);
+    keeps_problem_on_graph(&network.problem);
     keeps_greatest_bound(&network.problem);
     match change {
         Change::Fewest { costs, evidence } => {

@@ -13,7 +13,7 @@ use path_requests::present_cost;
 use present_costs::price_of_link;
 use std::alloc::Global;
 
-/// The graph of a network's problem.
+/// The graph of a network's problem. For the prover: a call, so that the caller's goals have this part alone.
 fn graph_of(network: &Network) -> &Graph
     ensures { result.now ≡ network.now.problem.graph }
 {

@@ -15,7 +15,7 @@ use std::alloc::Global;
 use wanted_paths::Names;
 
 /// Puts a line's cost into the place of its link, and marks that; or tells what is wrong with the line.
-#[tactic(auto, using(crate::proofs::PlanLaws::known_within, crate::proofs::PlanLaws::fault_twice, crate::proofs::PlanLaws::fault_none))]
+#[tactic(auto, using(crate::proofs::PlanLaws::line_faults))]
 fn take_line(
     names: &Names,
     line: &CostLine,
@@ -180,8 +180,8 @@ fn steps_between(
     steps_of(alloc, by, names, moved.as_slice())
 }
 
-/// A law of costs, which takes no time: each has 16 bits.
-fn keep_bits(costs: &[u16])
+/// For the prover alone: keeps that each cost has 16 bits; takes no time and changes nothing.
+fn keeps_bits(costs: &[u16])
     ensures { (k : ℕ) → k < length costs.now → slice_index costs.now k ≤ 65535 }
 {
     let _ = costs;
@@ -201,8 +201,8 @@ pub(crate) fn moves_to(
     requires positive { All (λ cost. 0 < cost) wanted.items }
     ensures { IfOk result (λ moves. moves ≡ moves_between by names.now present.items wanted.items) }
 {
-    keep_bits(present.as_slice());
-    keep_bits(wanted.as_slice());
+    keeps_bits(present.as_slice());
+    keeps_bits(wanted.as_slice());
     let steps = steps_between(alloc, by, names, present.as_slice(), wanted.as_slice())?;
     Ok(Moves {
         present: Listed::from_items(present),

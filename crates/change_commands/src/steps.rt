@@ -52,7 +52,7 @@ fn status_of(outcome: &Outcome) -> Status
     }
 }
 
-/// The requests of a problem.
+/// The requests of a problem. For the prover: a call, so that the caller's goals have this part alone.
 fn paths_of(problem: &Problem) -> &[Request]
     ensures { result.now ≡ problem.now.paths }
 {

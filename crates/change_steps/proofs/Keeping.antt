@@ -156,8 +156,8 @@ falls_or_not g p q es (x ∷ xs) = elim (falls_or_not g p q es xs) [
   ]
 ]
 
--- The only cheapest path stays so where no edge on it gets dearer, and each other edge gets no cheaper or lies on dearer
--- paths alone.
+-- The only cheapest path stays so where no edge on it gets dearer, and each other edge gets no cheaper or lies on
+-- dearer paths alone.
 pub only_unless : (g : Area) (p q : Point) (ends : Ends) (es : List ℕ) → IsOnlyCheapest g p ends es →
     ((e : ℕ) → Has es e → paid g q e ≤ paid g p e) →
     ((e : ℕ) → e < length g.edges → (Has es e → ⊥) →

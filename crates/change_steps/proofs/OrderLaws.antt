@@ -1,4 +1,5 @@
--- Safe lines and orders: they begin, grow and end; and where no state that can be reached has all steps between, no order is safe.
+-- Safe lines and orders: they begin, grow and end; and where no state that can be reached has all steps between, no
+-- order is safe.
 use Rattle.std.proofs.Common.{◌≡◌, ◌≢◌, ℕ, zero, suc, ◌+◌, ◌<◌, ◌≤◌, refl, sym, ◌∙◌, ap, subst, List, [], ◌∷◌, ◌++◌, length, get_or, take, inl, inr, ◌⊎◌, arith, All, Bool, true, false, cond, filter}
 use Rattle.std.specs.Prelude.{Contains}
 use Rattle.std.proofs.lemmas.Bool.{cases_Bool, cases_eq, cases_lt, both_ways, false≢true}

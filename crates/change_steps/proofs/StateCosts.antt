@@ -151,8 +151,8 @@ costs_le m f g v less = elim (cases_lt v (length m.present)) [
       omega (arith, mine, theirs)
 ]
 
--- in another state the path of a request stays the only cheapest where the costs of its variables don't rise, and those of
--- edges off it don't fall
+-- in another state the path of a request stays the only cheapest where the costs of its variables don't rise, and those
+-- of edges off it don't fall
 pub only_by_costs : (r : Rollout) (f g : ℕ → Bool) (k : ℕ) → IsRollout r → IsOnlyIn r f k →
     ((v : ℕ) → goes_over r.graph (request_at r.paths k).path.edges v ≡ true → cost_in r.moves g v ≤ cost_in r.moves f v) →
     ((e v : ℕ) → e < length r.graph.edges → (Has (request_at r.paths k).path.edges e → ⊥) → (edge_at r.graph e).price ≡ Var v →

@@ -19,8 +19,8 @@ use Rattle.change_steps.specs.States.{AreTested, AreAllReached, IsAnotherReached
 abbrev pub done_count : List Bool → ℕ
 done_count marks = count_by (λ done. done) marks
 
--- steps that can be done safely one after another, the first steps first and then some between: their state is the first
--- of the greatest safe states that were tested
+-- steps that can be done safely one after another, the first steps first and then some between: their state is the
+-- first of the greatest safe states that were tested
 pub record IsGreatest (r : Rollout) (held : List ℕ) (tested : List (List Bool)) (done : List ℕ) : Type 0 where
   pub line : IsSafeLine r held done
   pub rest : List ℕ

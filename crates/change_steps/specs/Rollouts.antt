@@ -6,7 +6,8 @@ use Rattle.area_graph.specs.Costs.{IsPriced}
 use Rattle.design_problem.specs.declared.problem.Request.{Request}
 use Rattle.rival_separation.specs.Askers.{ArePathsOf}
 
--- a present and a wanted cost for each variable, and the steps from the one to the other: the variables that each changes
+-- a present and a wanted cost for each variable, and the steps from the one to the other: the variables that each
+-- changes
 pub record CostMoves : Type 0 where
   pub present : List ℕ
   pub wanted : List ℕ

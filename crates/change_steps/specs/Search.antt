@@ -67,8 +67,8 @@ IsExplored p tested marks next = (k : ℕ) → k < next → MayFollow p.rollout 
 abbrev pub IsOnWay : HeldRollout → List ℕ → List Bool → Type 0
 IsOnWay p order marks = (d : ℕ) × (d ≤ length order) × (marks ≡ way_state p (take d order))
 
--- what a search keeps: its way is safe and tested; of each state on the way the steps before the one that was gone on with
--- were tested; each other safe state was tested with all that may follow
+-- what a search keeps: its way is safe and tested; of each state on the way the steps before the one that was gone on
+-- with were tested; each other safe state was tested with all that may follow
 pub record IsSearch (p : HeldRollout) (s : Position) : Type 0 where
   pub line : IsSafeLine p.rollout p.held (order_behind_first p s.order)
   pub between : All (λ k. kind_of_step p.rollout p.held k ≡ Between) s.order

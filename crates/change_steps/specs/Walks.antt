@@ -35,14 +35,15 @@ pub record IsComplete (p : HeldRollout) (w : Walk) : Type 0 where
   pub walk : IsSearchWalk p w
   pub whole : (k : ℕ) → MayFollow p.rollout p.held w.state.done.items k → ⊥
 
--- what a walk is by how it ended: all steps between are done; or all states that can be reached were tested; or as many as
--- the budget allows were tested, and another can be reached
+-- what a walk is by how it ended: all steps between are done; or all states that can be reached were tested; or as many
+-- as the budget allows were tested, and another can be reached
 abbrev pub IsWalkEnded : HeldRollout → ℕ → Walk → End → Type 0
 IsWalkEnded p nodes w Complete = IsComplete p w
 IsWalkEnded p nodes w Exhausted = IsUnderWay p nodes w × AreAllReached p.rollout p.held w.tested
 IsWalkEnded p nodes w UsedUp = IsUnderWay p nodes w × ((length w.tested ≡ max 1 nodes) × IsAnotherReached p.rollout p.held w.tested)
 
--- how much a walk has left: each state that may still be tested counts for two, one for going there and one for going back
+-- how much a walk has left: each state that may still be tested counts for two, one for going there and one for going
+-- back
 abbrev pub left_of : ℕ → Walk → ℕ
 left_of nodes w = 2 * (max 1 nodes - length w.tested) + length w.order.items
 

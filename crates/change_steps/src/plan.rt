@@ -76,7 +76,7 @@ impl<'a> Plan<'a> {
         })
     }
 
-    /// A law of each plan, which takes no time: it keeps the conditions of its rollout, and its held paths are those of
+    /// For the prover alone, a law of each plan, which takes no time: it keeps the conditions of its rollout, and its held paths are those of
     /// the rollout.
     pub fn keeps_conditions(&self)
         ensures rollout { IsRollout self.now.rollout }

@@ -50,7 +50,7 @@ impl<'a> Rollout<'a> {
         }
     }
 
-    /// A law of each rollout, which takes no time: it keeps its conditions.
+    /// For the prover alone: keeps that a rollout meets its conditions; takes no time and changes nothing.
     pub fn keeps_conditions(&self)
         ensures { IsRollout self.now }
     {

@@ -14,7 +14,8 @@ use Rattle.config_reader.specs.Faults.{last_hostname}
 use Rattle.config_reader.specs.FaultList.{Fault, at_line, long_line, refused, read_lines}
 use Rattle.config_reader.specs.Reading.{open_block}
 
--- the settings that were said, the heads of interfaces, the last `hostname` head, the first faulty line by itself and the open block
+-- the settings that were said, the heads of interfaces, the last `hostname` head, the first faulty line by itself and
+-- the open block
 pub record Heard : Type 0 where
   pub said : List Said
   pub heads : List (List ℕ × ℕ)

@@ -9,8 +9,8 @@ use Rattle.conflict_core.specs.declared.conflict.Conflict.{Conflict}
 use Rattle.conflict_core.specs.Asking.{AreSetsInOrder, IsCoreOfSet}
 use Rattle.conflict_core.specs.Asking.AreSetsInOrder.{unused, needed, shown}
 
--- The first stays out without a search, since no row is of it. Without the second there are costs, so it stays; and the set
--- that is left is searched at last.
+-- The first stays out without a search, since no row is of it. Without the second there are costs, so it stays; and the
+-- set that is left is searched at last.
 second_alone : (row : Row) (pool end : Pooled) (w : List ℕ) (tree : List Entry) (c : Conflict) → IsCoreOfSet (1 ∷ []) end tree (w ∷ []) c →
     AreSetsInOrder (0 ∷ 1 ∷ []) (record row { request = 1 } ∷ []) []
     (record { set = []; pool = pool; found = Costs w } ∷ record { set = 1 ∷ []; pool = end; found = Refuted tree } ∷ []) c

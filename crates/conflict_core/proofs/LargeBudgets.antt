@@ -1,5 +1,5 @@
--- Where no tree uses the budget up, the requests are settled; a budget of about twice as many entries as there are points
--- is used up by none.
+-- Where no tree uses the budget up, the requests are settled; a budget of about twice as many entries as there are
+-- points is used up by none.
 use Rattle.std.proofs.Common.{arith, length}
 use Rattle.design_problem.specs.Rows.{forms_of_rows}
 use Rattle.design_problem.proofs.TreeShapes.{few_entries}

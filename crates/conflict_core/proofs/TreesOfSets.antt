@@ -12,7 +12,7 @@ use Rattle.design_problem.specs.Rows.{IsRow, LeadsEach, form_of_row}
 use Rattle.design_problem.specs.Trees.{entry_count}
 use Rattle.design_problem.specs.Earnest.{IsFormOfRow}
 use Rattle.design_problem.specs.Answers.{whole_box}
-use Rattle.form_search.specs.Finds.{IsSearchTree}
+use Rattle.design_problem.specs.SearchTrees.{IsSearchTree}
 use Rattle.printed_rows.specs.NamedRows.{NamesBelow, is_row_named}
 use Rattle.printed_rows.specs.NewNumbers.{IsTreePrinted, new_number}
 use Rattle.printed_rows.proofs.RenumberedTrees.{count_kept, undone_kept}

@@ -1,4 +1,5 @@
--- How the searches that decide sets of requests call the advisors: which sets are decided, in order, and what is found by them.
+-- How the searches that decide sets of requests call the advisors: which sets are decided, in order, and what is found
+-- by them.
 use Rattle.std.specs.Prelude.{◌≡◌, ℕ, ◌<◌, ◌≤◌, ◌==◌, List, [], ◌∷◌, ◌++◌, map, length, slice_index, Bool, true, false}
 use Rattle.std.specs.List.{list_any, remove}
 use Rattle.design_problem.specs.declared.form.Row.{Row}
@@ -29,8 +30,8 @@ abbrev pub IsAskedOfSet : {A : Type 0} → (A → A → Type 0) → (A → List 
 IsAskedOfSet IsItself state would left after p top nodes d old new =
     IsRequestSet p d.set × IsAskedAt IsItself state would left after (restricted p d.set) top nodes (greatest_bound p) d.pool d.found old new
 
--- What is printed of a tree that a search of the set found: the rows that the tree names, with the whole problem's numbers of
--- requests, and the tree with the new numbers of these rows.
+-- What is printed of a tree that a search of the set found: the rows that the tree names, with the whole problem's
+-- numbers of requests, and the tree with the new numbers of these rows.
 abbrev pub IsPrintedOfSet : List ℕ → Pooled → List Entry → List Row → List Entry → Type 0
 IsPrintedOfSet set pool tree rows printed = IsTreePrinted (map (whole_row set) pool.rows) tree rows printed
 
@@ -48,10 +49,11 @@ IsCoreOfSet set pool tree without c =
 abbrev pub is_member_used : List Row → List ℕ → ℕ → Bool
 is_member_used rows set place = list_any (λ row. row.request == slice_index set place) rows
 
--- How a conflict is made smaller: by the set, the rows of the tree that refuted it, and the costs that were found without each
--- of its first members. The next member stays out without a search where no row is of it. Else the set without it is
--- searched: where costs are found, it stays; where the others are refuted, it stays out, and the rows are those of that
--- tree. At last the set is searched once more, for its own tree. A search that used up the budget is the last.
+-- How a conflict is made smaller: by the set, the rows of the tree that refuted it, and the costs that were found
+-- without each of its first members. The next member stays out without a search where no row is of it. Else the set
+-- without it is searched: where costs are found, it stays; where the others are refuted, it stays out, and the rows are
+-- those of that tree. At last the set is searched once more, for its own tree. A search that used up the budget is the
+-- last.
 pub data AreSetsInOrder : List ℕ → List Row → List (List ℕ) → List SetDecision → Conflict → Type 0 where
   unused : (set : List ℕ) → (rows : List Row) → (without : List (List ℕ)) → (ds : List SetDecision) → (c : Conflict) →
       length without < length set → is_member_used rows set (length without) ≡ false →
@@ -77,8 +79,8 @@ pub data AreSetsInOrder : List ℕ → List Row → List (List ℕ) → List Set
       length set ≤ length without → IsUndecidedOfSet set pool tree c →
       AreSetsInOrder set rows without (record { set = set; pool = pool; found = Undecided tree } ∷ []) c
 
--- The searches behind that of all requests, by what it found: where it found costs or used up the budget, none, and that is
--- the answer; where it refuted them, those by which they are made smaller.
+-- The searches behind that of all requests, by what it found: where it found costs or used up the budget, none, and
+-- that is the answer; where it refuted them, those by which they are made smaller.
 abbrev pub AreSetsBehind : List ℕ → Pooled → Found → List SetDecision → Conflict → Type 0
 AreSetsBehind all pool (Costs w) behind c = (behind ≡ []) × (c ≡ conflict.Fits w)
 AreSetsBehind all pool (Refuted tree) behind c =
@@ -90,8 +92,8 @@ abbrev pub AreSettledSets : DesignProblem → List SetDecision → Conflict → 
 AreSettledSets p [] c = ⊥
 AreSettledSets p (first ∷ behind) c = (first.set ≡ all_requests p) × AreSetsBehind first.set first.pool first.found behind c
 
--- one search after another called them, by which this was found: that of all requests, and where it refuted them, others of
--- sets of requests
+-- one search after another called them, by which this was found: that of all requests, and where it refuted them,
+-- others of sets of requests
 abbrev pub AreAskedFinding : {A V : Type 0} {X : V → Type 0} → ((rules : V) → Ghosts (X rules)) → (A → V) → (A → List ℕ) →
     DesignProblem → ℕ → ℕ → List A → List A → Conflict → Type 0
 AreAskedFinding members rules state p top nodes old new c = (decisions : List SetDecision) × AreSettledSets p decisions c

@@ -12,7 +12,7 @@ use Rattle.design_problem.specs.Trees.{IsClosed, entry_count}
 use Rattle.design_problem.specs.Earnest.{IsFormOfRow}
 use Rattle.design_problem.specs.Answers.{whole_box}
 use Rattle.design_problem.specs.ProblemLaws.{HasNoFit}
-use Rattle.form_search.specs.Finds.{IsShort}
+use Rattle.design_problem.specs.SearchTrees.{IsShort}
 use Rattle.printed_rows.specs.PrintedTrees.{IsPrintedOver}
 use Rattle.printed_rows.specs.Sheets.{IsSheet}
 use Rattle.cost_branching.specs.Pools.{Differ}

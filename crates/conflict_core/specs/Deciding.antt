@@ -94,7 +94,8 @@ AreAskedShrinking members rules state p top nodes t old new c = (rows : List Row
     × IsPrintedOfSet t.members.items t.pool t.tree rows printed
     × AreAskedFrom members rules state p top nodes t.members.items rows [] old new c
 
--- what the searches that left out a member come to: those of what is left now are behind them, or the budget was used up at a set
+-- what the searches that left out a member come to: those of what is left now are behind them, or the budget was used
+-- up at a set
 abbrev pub IsTriedBy : Shrunk → Tried → List SetDecision → Type 0
 IsTriedBy shrunk (On next) ds = AreBefore shrunk next ds
 IsTriedBy shrunk (TriedUndecided t) ds = (c : Conflict) → IsUndecidedOfSet t.members.items t.pool t.tree c → AreShrinking shrunk ds c

@@ -19,8 +19,8 @@ IsConflictSettled (Fits w) = Unit {0}
 IsConflictSettled (Core members rows tree without) = Unit {0}
 IsConflictSettled (Undecided members rows tree) = ⊥
 
--- The budget can't be used up: for no set of requests has an earnest tree over the box at the greatest bound an undone entry
--- and exactly as many entries as the budget.
+-- The budget can't be used up: for no set of requests has an earnest tree over the box at the greatest bound an undone
+-- entry and exactly as many entries as the budget.
 abbrev pub CannotBeUndecidedOnSets : DesignProblem → ℕ → ℕ → Type 0
 CannotBeUndecidedOnSets p top nodes =
     (members : List ℕ) (rows : List Row) (tree : List Entry) → IsRequestSet p members → All (IsRow p) rows →

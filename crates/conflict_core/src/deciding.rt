@@ -9,9 +9,9 @@ ghost use Rattle.conflict_core.specs.Conflicts.{IsRequestSet};
 ghost use Rattle.conflict_core.specs.Deciding.{IsAskedDeciding, IsAskedSearching, IsSetDecided};
 
 use cost_base::OutOfMemory;
-use cost_branching::{Found, Pool, decide, keeps_conditions};
+use cost_branching::{Found, Pool, decide};
 use cut_advisors::Advisor;
-use design_problem::{CostList, Problem, Tree, greatest_of};
+use design_problem::{CostList, Problem, Tree, greatest_of, keeps_problem_on_graph};
 use std::alloc::Global;
 use wide_fraction::Limits;
 
@@ -63,7 +63,7 @@ fn search_set(
     ensures advisors { AreCalled ⟦<dyn Advisor as Advisor>⟧ (λ b. b.vtable) (λ b. state b)
         advisors.old.items advisors.new.items }
 {
-    keeps_conditions(problem);
+    keeps_problem_on_graph(problem);
     let part = problem.only(pool.alloc(), members)?;
     let cap = greatest_of(part.high.as_slice());
     decide(&part, cap, limits, pool, advisors)

@@ -11,9 +11,8 @@ use crate::members::all_requests;
 use crate::shrinking::{Shrunk, Tried, leave_out};
 use crate::telling::{Told, tell};
 use cost_base::{Listed, OutOfMemory};
-use cost_branching::keeps_conditions;
 use cut_advisors::Advisor;
-use design_problem::{CostList, Problem};
+use design_problem::{CostList, Problem, keeps_problem_on_graph};
 use std::alloc::Global;
 use wide_fraction::Limits;
 
@@ -53,7 +52,7 @@ fn core(
     ensures told { IfOk result (IsCoreOfSet conflict.members.items conflict.pool conflict.tree
         without.items) }
 {
-    keeps_conditions(problem);
+    keeps_problem_on_graph(problem);
     let Told {
         members,
         rows,
@@ -110,7 +109,7 @@ fn shrink(
     ensures advisors { AreCalled ⟦<dyn Advisor as Advisor>⟧ (λ b. b.vtable) (λ b. state b)
         advisors.old.items advisors.new.items }
 {
-    keeps_conditions(problem);
+    keeps_problem_on_graph(problem);
     let Told {
         members,
         rows,
@@ -158,7 +157,7 @@ pub fn find_conflict(
     ensures advisors { AreCalled ⟦<dyn Advisor as Advisor>⟧ (λ b. b.vtable) (λ b. state b)
         advisors.old.items advisors.new.items }
 {
-    keeps_conditions(problem);
+    keeps_problem_on_graph(problem);
     let all = all_requests(alloc, problem)?;
     match decide_set(alloc, problem, all, limits, advisors)? {
         Decided::Costs(costs) => Ok(Conflict::Fits { costs }),

@@ -8,9 +8,8 @@ use crate::deciding::{Decided, SetTree, decide_set};
 use crate::members::without_one;
 use crate::telling::{Told, tell};
 use cost_base::{Listed, OutOfMemory};
-use cost_branching::keeps_conditions;
 use cut_advisors::Advisor;
-use design_problem::{CostList, Problem, Row};
+use design_problem::{CostList, Problem, Row, keeps_problem_on_graph};
 use std::alloc::Global;
 use wide_fraction::Limits;
 
@@ -143,7 +142,7 @@ pub(crate) fn leave_out(
     ensures advisors { AreCalled ⟦<dyn Advisor as Advisor>⟧ (λ b. b.vtable) (λ b. state b)
         advisors.old.items advisors.new.items }
 {
-    keeps_conditions(problem);
+    keeps_problem_on_graph(problem);
     let others = without_next(alloc, &shrunk)?;
     if !uses_next(&shrunk) {
         return Ok(Tried::On(shrunk.with_members(others)));

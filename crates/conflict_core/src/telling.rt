@@ -5,8 +5,7 @@ ghost use Rattle.conflict_core.specs.Deciding.{IsSetTree, IsSetTreeTold};
 
 use crate::deciding::SetTree;
 use cost_base::{Listed, OutOfMemory};
-use cost_branching::keeps_conditions;
-use design_problem::{Problem, Row, Tree};
+use design_problem::{Problem, Row, Tree, keeps_problem_on_graph};
 use printed_rows::{PrintedTree, printed};
 use std::alloc::Global;
 
@@ -47,7 +46,7 @@ pub(crate) fn tell(alloc: Global, problem: &Problem, set: SetTree) -> Result<Tol
     ensures { (top nodes : ℕ) → IsSetTree problem.now top nodes set →
         IfOk result (IsSetTreeTold problem.now top nodes set) }
 {
-    keeps_conditions(problem);
+    keeps_problem_on_graph(problem);
     let SetTree {
         members,
         pool,

@@ -1,4 +1,5 @@
--- Lists: numbers in a row, maps and filters over them, tests of images, a list with one more element, what a list lacks, and two lists together.
+-- Lists: numbers in a row, maps and filters over them, tests of images, a list with one more element, what a list
+-- lacks, and two lists together.
 use Rattle.std.proofs.Common.{◌≡◌, ◌≢◌, ℕ, zero, suc, ◌+◌, ◌<◌, ◌≤◌, refl, sym, ◌∙◌, ap, subst, List, [], ◌∷◌, ◌++◌, All, Bool, true, false, cond, ◌||◌, filter, map, length, get_or, arith, Option, None, Some, append_assoc, zero-add}
 use Rattle.std.specs.List.{AllByRecursion, AllZip, cons_option, list_any}
 use Rattle.std.specs.Option.{option_or}

@@ -13,7 +13,7 @@ use Rattle.design_problem.specs.declared.form.Row.{Row}
 use Rattle.design_problem.specs.declared.problem.Request.{Request}
 use Rattle.design_problem.specs.Forms.{Form, AreMet}
 use Rattle.design_problem.specs.Forms.{no_form, value_at}
-use Rattle.design_problem.specs.Problems.{DesignProblem, IsProblem, request_ends, no_request, request_at}
+use Rattle.design_problem.specs.Problems.{DesignProblem, IsProblem, request_ends, no_request, request_at, IsProblemOnGraph}
 use Rattle.design_problem.specs.Rows.{IsRivalOf, IsRow, LeadsEach, form_of_row, forms_of_rows, path_edges}
 use Rattle.rival_separation.specs.Askers.{AreCheapestRivals, IsCheapestIfAny, RequestLeads}
 use Rattle.rival_separation.specs.Rivals.{IsCheapestRival}
@@ -22,7 +22,7 @@ use Rattle.form_search.specs.declared.source.Asked.{Asked}
 use Rattle.form_search.specs.declared.source.Asked.TheVariants.{Nothing, Added}
 use Rattle.form_search.proofs.SourceLaws.{grows_none}
 use Rattle.cost_branching.specs.Pools.{ArePoolRows, Differ, IsRowPool}
-use Rattle.cost_branching.specs.Rivals.{BeginWith, IsProblemOnGraph, IsRivalTooCheap, IsTrueRowForm, KnownRows}
+use Rattle.cost_branching.specs.Rivals.{BeginWith, IsRivalTooCheap, IsTrueRowForm, KnownRows}
 use Rattle.cost_branching.specs.Asking.{AnswersRequestsBelow, AreAllRequestsAsked, AreRequestsAsked, AreAskedAmong, IsRequestAsked, NoRivalRow, OneRivalRow}
 use Rattle.cost_branching.specs.SourceLaws.{rival_row_met}
 use Rattle.cost_branching.proofs.NewForms.{between_negative, grows_more, new_rival}

@@ -12,8 +12,8 @@ use Rattle.form_search.specs.Advised.{AreAllTold, AreCalledBySearch, IsPick, IsT
 use Rattle.cost_branching.specs.Pools.{Pooled}
 use Rattle.cost_branching.specs.Decisions.{IsDecided}
 
--- A search that decided a cap of the problem, by the rows of a pool, called them: they were asked before each Split of the
--- tree of what it found, at the least point of the open box, and told each entry.
+-- A search that decided a cap of the problem, by the rows of a pool, called them: they were asked before each Split of
+-- the tree of what it found, at the least point of the open box, and told each entry.
 pub record IsAskedAt {A : Type 0} (IsItself : A → A → Type 0) (state : A → List ℕ) (would : A → List ℕ → List Candidate → ℕ)
     (left : A → List ℕ → List Candidate → List ℕ) (after : A → List ℕ → Entry → List ℕ)
     (p : DesignProblem) (top nodes cap : ℕ) (pool : Pooled) (found : Found) (old new : List A) : Type 0 where

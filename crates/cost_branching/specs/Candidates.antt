@@ -1,4 +1,5 @@
--- The forms that the rows of a problem can have: finitely many, since a simple path has fewer edges than the graph has vertices.
+-- The forms that the rows of a problem can have: finitely many, since a simple path has fewer edges than the graph has
+-- vertices.
 use Rattle.std.specs.Prelude.{ℕ, zero, suc, List, [], ◌∷◌, ◌++◌, map, length}
 use Rattle.cost_base.specs.Lists.{numbers_from}
 use Rattle.design_problem.specs.Forms.{Form}

@@ -1,11 +1,10 @@
 -- The source of a search whose forms are those of the rivals of a problem's wanted paths.
 use Rattle.std.specs.Prelude.{◌≡◌, ℕ, ◌+◌, ◌<◌, List, [], ◌++◌, slice_get}
 use Rattle.area_graph.specs.declared.Point.{Point}
-use Rattle.area_graph.specs.Area.{FitsGraph, HasMetrics}
 use Rattle.area_graph.specs.Costs.{cost}
 use Rattle.design_problem.specs.Forms.{Form}
 use Rattle.design_problem.specs.declared.form.Row.{Row}
-use Rattle.design_problem.specs.Problems.{DesignProblem, IsProblem}
+use Rattle.design_problem.specs.Problems.{DesignProblem, IsProblemOnGraph}
 use Rattle.design_problem.specs.Rows.{IsRivalOf, path_edges}
 use Rattle.design_problem.specs.Earnest.{IsFormOfRow}
 use Rattle.form_search.specs.Sources.{Grows}
@@ -19,12 +18,6 @@ pub record KnownRows : Type 0 where
 -- what stands for a problem where none is picked
 abbrev pub no_problem : DesignProblem
 no_problem = record { graph = record { vertices = []; edges = [] }; vars = []; low = []; high = []; paths = [] }
-
--- what every problem and its graph keep
-pub record IsProblemOnGraph (p : DesignProblem) : Type 0 where
-  pub problem : IsProblem p
-  pub graph : FitsGraph p.graph
-  pub metrics : HasMetrics p.graph
 
 -- a true form: that of a row of the problem
 pub record IsTrueRowForm (p : DesignProblem) (form : Form) : Type 0 where

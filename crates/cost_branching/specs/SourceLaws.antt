@@ -1,5 +1,5 @@
--- Laws of the source of rivals: its true forms hold where each path leads, they stand in one list, and a path that leads
--- at multiples of costs leads at the costs.
+-- Laws of the source of rivals: its true forms hold where each path leads, they stand in one list, and a path that
+-- leads at multiples of costs leads at the costs.
 use Rattle.std.proofs.Common.{◌≡◌, ℕ, zero, suc, ◌+◌, ◌*◌, ◌^◌, ◌<◌, ◌≤◌, refl, sym, ◌∙◌, subst, ap, inl, inr, get_or, List, [], ◌∷◌, map, length, arith}
 use Rattle.std.specs.Prelude.{ℤ, pos, ◌-ℤ◌, ◌≤ℤ◌, nat_abs, All, Contains, slice_get, slice_index}
 use Rattle.std.proofs.lemmas.Int.{ints}

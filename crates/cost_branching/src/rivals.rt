@@ -5,7 +5,7 @@ ghost use Rattle.design_problem.specs.Forms.{AreMet};
 ghost use Rattle.rival_separation.specs.Askers.{AreCheapestRivals, IsAskerFor};
 ghost use Rattle.form_search.specs.Sources.{Grows, IsCostPoint};
 ghost use Rattle.cost_branching.specs.Pools.{ArePoolRows};
-ghost use Rattle.cost_branching.specs.Rivals.{BeginWith, IsProblemOnGraph, IsTrueRowForm};
+ghost use Rattle.cost_branching.specs.Rivals.{BeginWith, IsTrueRowForm};
 ghost use Rattle.cost_branching.specs.Asking.{AreAllRequestsAsked, IsRequestAsked};
 ghost use Rattle.area_graph.specs.declared.Point.{Point};
 
@@ -66,14 +66,6 @@ impl<'a, B: Begun> Model for Rivals<'a, B> {
     } };
 }
 
-/// For the prover alone: keeps that a problem meets the conditions of its type, and its graph those of a graph; takes
-/// no time and changes nothing.
-pub fn keeps_conditions(problem: &Problem)
-    ensures { IsProblemOnGraph problem.now }
-{
-    problem.graph.keeps_conditions();
-}
-
 /// How many wanted paths a problem has.
 pub fn path_count(problem: &Problem) -> u32
     ensures { result ≡ length problem.now.paths }
@@ -114,7 +106,7 @@ fn cheapest_rivals(
     ensures rivals { IfOk result (λ rivals. AreCheapestRivals problem.now.graph point.now
         problem.now.paths rivals.items) }
 {
-    keeps_conditions(problem);
+    keeps_problem_on_graph(problem);
     asker.cheapest_rivals(alloc, &problem.graph, problem.paths.as_slice(), point)
 }
 
@@ -125,7 +117,7 @@ fn all_lead(problem: &Problem, asker: &mut Asker, point: &Point) -> bool
     ensures asker { IsAskerFor problem.now.graph problem.now.paths asker.new }
     ensures leads { IsTrue result ↔ LeadsEach problem.now point.now }
 {
-    keeps_conditions(problem);
+    keeps_problem_on_graph(problem);
     asker.each_leads(&problem.graph, problem.paths.as_slice(), point)
 }
 
@@ -177,7 +169,7 @@ fn ask_one(
     ensures same_rows { OnErr result (rows.new.items ≡ rows.old.items) }
     ensures same_forms { OnErr result (pool.new ≡ pool.old) }
 {
-    keeps_conditions(problem);
+    keeps_problem_on_graph(problem);
     match told_of(rivals, request) {
         Some(edges) => {
             let row = row_of(pool.alloc(), request, edges.as_slice())?;

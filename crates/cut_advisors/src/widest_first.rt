@@ -41,6 +41,7 @@ fn greatest_width(choices: &[Candidate]) -> u16
 fn wider(greatest: u16, choice: &Candidate) -> u16
     ensures { result ≡ max greatest (width choice.now) }
 {
+    // For the prover alone: a candidate's low is at most its high, so nothing saturates; no clause says so here.
     let width = choice.high.saturating_sub(choice.low);
     if greatest < width { width } else { greatest }
 }
@@ -57,6 +58,7 @@ fn first_widest(choices: &[Candidate]) -> u32
 fn first_of_width(choices: &[Candidate], wanted: u16) -> Option<usize>
     ensures { result ≡ position (λ choice. width choice == wanted) choices.now }
 {
+    // Nothing saturates: see `wider`.
     choices
         .iter()
         .position(|choice| choice.high.saturating_sub(choice.low) == wanted)

@@ -22,7 +22,8 @@ id_refused names found = place_refused lsa_fault_number (file_of names found.con
 abbrev pub identified_read : InputFiles → Reading Input
 identified_read names = outcome AtPresent names >>= λ d. unless_refused (id_refused names) d (first_id_fault [] 0 (routers_of d.files))
 
--- the bytes are the LSAs of the configurations at present costs, and the graph of these is the one that an audit goes by
+-- the bytes are the LSAs of the configurations at present costs, and the graph of these is the one that an audit goes
+-- by
 pub record AreWritten (d : Input) (bytes : List ℕ) : Type 0 where
   pub written : bytes ≡ bytes_of_all (written_lsas (routers_of d.files) d.database (present_of_links d.asked d.database))
   pub one_graph : SayGraph bytes d.problem.graph

@@ -4,7 +4,7 @@ use Rattle.cost_base.specs.Histories.{Taken}
 use Rattle.design_problem.specs.Problems.{DesignProblem}
 use Rattle.design_problem.specs.Answers.{AnswerParts}
 use Rattle.design_problem.specs.Text.{text}
-use Rattle.command_words.specs.Jobs.{SearchLimits}
+use Rattle.wide_fraction.specs.SearchLimits.{SearchLimits}
 use Rattle.input_files.specs.declared.problem.View.TheVariants.{AsRequested}
 use Rattle.input_files.specs.Inputs.{InputFiles}
 use Rattle.input_files.specs.Readings.{Gave}

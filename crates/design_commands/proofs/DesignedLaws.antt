@@ -21,7 +21,7 @@ use Rattle.design_problem.specs.Text.{FitsCostLine, FitsCosts, text}
 use Rattle.design_problem.proofs.ProblemTrees.{valid_holds}
 use Rattle.evidence_text.specs.AnswerValues.{IsAnswerValue}
 use Rattle.least_bound.specs.Answered.{VerdictHolds}
-use Rattle.command_words.specs.Jobs.{SearchLimits}
+use Rattle.wide_fraction.specs.SearchLimits.{SearchLimits}
 use Rattle.input_files.specs.Outcomes.{Input}
 use Rattle.input_files.proofs.ReadyInputs.{IsReadyInput}
 use Rattle.design_commands.specs.Designs.{IsAnswerTo, IsDesigned, IsShownImpossible, IsShownUndecided, verdict_status, MayDesign, AreCheapestBack}

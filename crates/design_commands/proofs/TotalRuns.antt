@@ -25,7 +25,7 @@ use Rattle.least_total.specs.declared.finding.TotalProof.{TotalProof}
 use Rattle.least_total.specs.declared.finding.TotalProof.TheVariants.{Floor, Tree}
 use Rattle.least_total.specs.Totals.{HasLeastTotal, total}
 use Rattle.least_total.specs.Results.{IsTotalAnswer, IsRecosted, IsUndecidedTotal, ShowsLeastTotal}
-use Rattle.command_words.specs.Jobs.{SearchLimits}
+use Rattle.wide_fraction.specs.SearchLimits.{SearchLimits}
 use Rattle.input_files.specs.declared.problem.View.TheVariants.{AsRequested}
 use Rattle.input_files.specs.Inputs.{InputFiles}
 use Rattle.input_files.specs.Readings.{Gave}

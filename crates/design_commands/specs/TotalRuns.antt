@@ -24,7 +24,7 @@ use Rattle.least_total.specs.declared.finding.TotalProof.{TotalProof}
 use Rattle.least_total.specs.declared.finding.TotalProof.TheVariants.{Floor, Tree}
 use Rattle.report_writer.specs.declared.report.Report.{Report}
 use Rattle.report_writer.specs.Reports.{Reports}
-use Rattle.command_words.specs.Jobs.{SearchLimits}
+use Rattle.wide_fraction.specs.SearchLimits.{SearchLimits}
 use Rattle.input_files.specs.Outcomes.{Input}
 use Rattle.design_commands.specs.Designs.{IsDesigned, IsShownImpossible, IsShownUndecided, AreCheapestBack}
 use Rattle.read_back_laws.specs.ReadBack.{IsReadBack}
@@ -53,8 +53,8 @@ bound_lines bound rows t = spaced (codes "bound" ∷ decimal bound ∷ []) ∷ (
 abbrev pub at_cap : ℕ → List Entry → CapTree
 at_cap cap tree = record { cap = cap; tree = tree }
 
--- the lines print a closed earnest tree over the box at the costs' greatest cost, in which the form of the total has the
--- bound right below the costs' total: none of best costs has a smaller total
+-- the lines print a closed earnest tree over the box at the costs' greatest cost, in which the form of the total has
+-- the bound right below the costs' total: none of best costs has a smaller total
 pub record IsProvedTotal (limits : SearchLimits) (p : DesignProblem) (w : List ℕ) (shown : List (List ℕ)) : Type 0 where
   pub most : ℕ
   pub below : most + 1 ≡ total w
@@ -70,8 +70,8 @@ pub record IsFloorTotal (p : DesignProblem) (w : List ℕ) (shown : List (List �
   pub floor : total w ≡ total p.low
   pub spelled : shown ≡ floor_lines
 
--- The bytes print best costs that have the least total: the text of an answer, as a design prints it, with these costs; their
--- total; and what shows that it is the least. The costs are read back from these bytes as from a design's.
+-- The bytes print best costs that have the least total: the text of an answer, as a design prints it, with these costs;
+-- their total; and what shows that it is the least. The costs are read back from these bytes as from a design's.
 pub record IsTotalled (limits : SearchLimits) (d : Input) (bytes : List ℕ) : Type 0 where
   pub inside : List ℕ
   pub designed : IsDesigned limits d inside
@@ -82,10 +82,10 @@ pub record IsTotalled (limits : SearchLimits) (d : Input) (bytes : List ℕ) : T
   pub shows : IsFloorTotal d.problem designed.costs shown ⊎ IsProvedTotal limits d.problem designed.costs shown
   pub spelled : bytes ≡ total_text inside (total designed.costs) shown
 
--- The bytes show that the budget was used up at a bound of the total: they print an answer with best costs, their total, and
--- a tree, earnest over the box at their greatest cost, with an undone entry and exactly as many entries as the budget, in which the
--- form of the total has the bound. The bound is at least the total of the lower bounds, and below that of the costs, which
--- are read back from these bytes as from a design's.
+-- The bytes show that the budget was used up at a bound of the total: they print an answer with best costs, their
+-- total, and a tree, earnest over the box at their greatest cost, with an undone entry and exactly as many entries as
+-- the budget, in which the form of the total has the bound. The bound is at least the total of the lower bounds, and
+-- below that of the costs, which are read back from these bytes as from a design's.
 pub record IsShownUndecidedTotal (limits : SearchLimits) (d : Input) (bytes : List ℕ) : Type 0 where
   pub inside : List ℕ
   pub designed : IsDesigned limits d inside
@@ -100,8 +100,8 @@ pub record IsShownUndecidedTotal (limits : SearchLimits) (d : Input) (bytes : Li
   pub used_up : IsUndecidedTotal d.problem limits.top limits.nodes (greatest_cost designed.costs) bound rows tree
   pub spelled : bytes ≡ total_text inside (total designed.costs) (bound_lines bound rows (at_cap (greatest_cost designed.costs) tree))
 
--- `total`: the least total among the best costs; or that no costs are fit; or that the budget was used up, for the greatest
--- cost or for the total
+-- `total`: the least total among the best costs; or that no costs are fit; or that the budget was used up, for the
+-- greatest cost or for the total
 abbrev pub MayTotal : SearchLimits → Input → Status → List ℕ → Type 0
 MayTotal limits d Done bytes = IsTotalled limits d bytes
 MayTotal limits d Impossible bytes = IsShownImpossible limits d.problem bytes

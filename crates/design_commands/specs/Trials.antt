@@ -15,7 +15,7 @@ use Rattle.design_problem.specs.Answers.{AnswerParts, lines_in}
 use Rattle.design_problem.specs.GivenCosts.{costs_given}
 use Rattle.design_problem.specs.Text.{text}
 use Rattle.evidence_text.specs.AnswerValues.{IsAnswerValue}
-use Rattle.command_words.specs.Jobs.{SearchLimits}
+use Rattle.wide_fraction.specs.SearchLimits.{SearchLimits}
 use Rattle.input_files.specs.declared.problem.View.TheVariants.{AsRequested}
 use Rattle.input_files.specs.Inputs.{InputFiles}
 use Rattle.input_files.specs.Readings.{End, Says, Faulty, Failed}
@@ -55,7 +55,8 @@ pub record IsLineFollowedBy (line : List ℕ) (IsText : List ℕ → Type 0) (by
   pub spelled : bytes ≡ line ++ behind
   pub is_text : IsText behind
 
--- the text by the answer to a trial's problem: the summary line, and where there are no best costs the answer's text behind it
+-- the text by the answer to a trial's problem: the summary line, and where there are no best costs the answer's text
+-- behind it
 abbrev pub trial_text : ℕ → ℕ → DesignProblem → AnswerParts → Verdict → List ℕ
 trial_text blocks start p a (Optimal k) =
     summary_line blocks start (codes "optimal") (decimal k) (decimal (sum (costs_given p (lines_in a.costs))))

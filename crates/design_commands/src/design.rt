@@ -1,6 +1,6 @@
 //! `design`: an answer to the files of words.
 ghost use Rattle.std.specs.Prelude.{◌≡◌, ◌⊎◌, ℕ, List, IfErr, IfOk};
-ghost use Rattle.command_words.specs.Jobs.{limits_seen};
+ghost use Rattle.wide_fraction.specs.SearchLimits.{limits_seen};
 ghost use Rattle.design_problem.specs.Text.{text};
 ghost use Rattle.form_search.specs.Advised.{AreCalled};
 ghost use Rattle.least_bound.specs.Asking.{AreAskedAnswering};

@@ -3,7 +3,7 @@ ghost use Rattle.std.specs.Prelude.{◌≡◌, ◌⊎◌, ◌++◌, ◌∷◌, [
 ghost use Rattle.cost_base.specs.Decimal.{decimal};
 ghost use Rattle.form_search.specs.Advised.{AreCalled};
 ghost use Rattle.least_bound.specs.Asking.{AreAskedAnswering};
-ghost use Rattle.command_words.specs.Jobs.{limits_seen};
+ghost use Rattle.wide_fraction.specs.SearchLimits.{limits_seen};
 ghost use Rattle.design_problem.specs.Text.{row_line, spaced, text};
 ghost use Rattle.text_lines.specs.Lines.{with_ends};
 ghost use Rattle.printed_rows.specs.FittingTexts.{FitText};

@@ -217,8 +217,8 @@ more_terms m w s ts are up within =
     earlier : All (λ (t : Term). t.var < m) ts
     earlier = All-weaker (λ (t : Term). t.var < w) (λ (t : Term). t.var < m) (λ t before. omega arith) ts are.known
 
--- The terms and the balance of the first payments, which stand in the order of their variables: with the term of the balance
--- they tell how much more often each variable is paid by the rival.
+-- The terms and the balance of the first payments, which stand in the order of their variables: with the term of the
+-- balance they tell how much more often each variable is paid by the rival.
 pub record AreBalanced (n : ℕ) (ts : List Term) (balance : Balance) (ps : List Payment) : Type 0 where
   pub terms : AreTerms balance.var ts
   pub within : balance.var ≤ n

@@ -18,3 +18,4 @@ pub mod Payments
 pub mod OpenPlaces
 pub mod Renumbering
 pub mod Builders
+pub mod SearchTrees

@@ -81,7 +81,8 @@ cut_count (Halve var value wide ∷ entries) = 1 + cut_count entries
 cut_count (Refute parts ∷ entries) = cut_count entries
 cut_count (Undone ∷ entries) = cut_count entries
 
--- of the entries of an earnest tree in n variables many have two subtrees: with an Undone at least (N - 2n)/(4n + 2) of N
+-- of the entries of an earnest tree in n variables many have two subtrees: with an Undone at least (N - 2n)/(4n + 2) of
+-- N
 pub record HasManyCuts (n : ℕ) (tree : List Entry) : Type 0 where
   pub count : entry_count tree ≤ 2 * n + 1 + (4 * n + 2) * cut_count tree
   pub unfinished : Contains tree Undone → entry_count tree ≤ 2 * n + (4 * n + 2) * cut_count tree

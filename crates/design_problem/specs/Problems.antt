@@ -2,7 +2,7 @@
 use Rattle.std.specs.Prelude.{◌≡◌, ℕ, ◌<◌, ◌≤◌, List, [], map, length, slice_index, slice_index_or, All, Any}
 use Rattle.std.specs.List.Sorted.{IsStrictlyIncreasing}
 use Rattle.cost_base.specs.Words.{IsWord}
-use Rattle.area_graph.specs.Area.{Area}
+use Rattle.area_graph.specs.Area.{Area, FitsGraph, HasMetrics}
 use Rattle.area_graph.specs.Paths.{Ends, IsPathOf}
 use Rattle.area_graph.specs.Costs.{IsPriced}
 use Rattle.design_problem.specs.declared.problem.VarName.{VarName}
@@ -48,3 +48,9 @@ request_at requests k = slice_index_or requests k no_request
 -- the restricted problem of some requests: the same graph, variables and bounds, and only those requests
 abbrev pub restricted : DesignProblem → List ℕ → DesignProblem
 restricted p members = record { graph = p.graph; vars = p.vars; low = p.low; high = p.high; paths = map (request_at p.paths) members }
+
+-- what every problem and its graph keep
+pub record IsProblemOnGraph (p : DesignProblem) : Type 0 where
+  pub problem : IsProblem p
+  pub graph : FitsGraph p.graph
+  pub metrics : HasMetrics p.graph

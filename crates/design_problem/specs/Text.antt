@@ -188,7 +188,8 @@ pub record IsPrintedRatio (q : Ratio) : Type 0 where
   pub numerator : nat_abs fraction.numerator < 2 ^ 127
   pub denominator : fraction.denominator < 2 ^ 127
 
--- a Halve's fractions are printed ones, and its basis names a member; a Refute has a part, and multipliers of at most 31 digits
+-- a Halve's fractions are printed ones, and its basis names a member; a Refute has a part, and multipliers of at most
+-- 31 digits
 abbrev pub FitsEntry : Entry → Type 0
 FitsEntry (Tighten v side bound row) = Unit {0}
 FitsEntry (Split v bound) = Unit {0}

@@ -1,5 +1,5 @@
 //! Problems of design.
-ghost use Rattle.design_problem.specs.Problems.{IsProblem};
+ghost use Rattle.design_problem.specs.Problems.{IsProblem, IsProblemOnGraph};
 
 use area_graph::{Graph, Path};
 use cost_base::{Listed, Name};
@@ -62,10 +62,18 @@ impl Model for Problem {
 }
 
 impl Problem {
-    /// A law of each problem, which takes no time: it keeps the conditions of its type.
+    /// For the prover alone: keeps that a problem meets the conditions of its type; takes no time and changes nothing.
     pub fn keeps_conditions(&self)
         ensures { IsProblem self.now }
     {
         let _ = &self.graph;
     }
+}
+
+/// For the prover alone: keeps that a problem meets the conditions of its type, and its graph those of a graph; takes
+/// no time and changes nothing.
+pub fn keeps_problem_on_graph(problem: &Problem)
+    ensures { IsProblemOnGraph problem.now }
+{
+    problem.graph.keeps_conditions();
 }

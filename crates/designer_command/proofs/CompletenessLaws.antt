@@ -18,7 +18,8 @@ use Rattle.design_problem.specs.ProblemLaws.{HasNoFit}
 use Rattle.sections_reader.proofs.SaidCosts.{said_once, said_read}
 use Rattle.least_bound.specs.Answered.{UnfinishedAt}
 use Rattle.config_writer.specs.Rewriting.{first_missing}
-use Rattle.command_words.specs.Jobs.{SearchLimits, JobRead}
+use Rattle.command_words.specs.Jobs.{JobRead}
+use Rattle.wide_fraction.specs.SearchLimits.{SearchLimits}
 use Rattle.command_words.specs.Jobs as read
 use Rattle.command_words.specs.Commands.{job_of}
 use Rattle.trial_maker.specs.TrialTexts.{made_trial}

@@ -14,7 +14,7 @@ use Rattle.design_problem.specs.Answers.{greatest_bound}
 use Rattle.design_problem.proofs.ProblemTrees.{le_greatest}
 use Rattle.design_problem.proofs.TreeShapes.{few_entries}
 use Rattle.printed_rows.proofs.CapBoxes.{capped_box}
-use Rattle.command_words.specs.Jobs.{SearchLimits}
+use Rattle.wide_fraction.specs.SearchLimits.{SearchLimits}
 use Rattle.conflict_core.proofs.LargeBudgets.{large_suffice as conflict_large}
 use Rattle.spread_sets.proofs.PrintedSets.{large_suffice as spread_large}
 use Rattle.least_total.specs.Totals.{forms_within}

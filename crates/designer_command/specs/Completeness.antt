@@ -20,7 +20,8 @@ use Rattle.design_problem.specs.Answers.{AnswerParts, IsValid, whole_box}
 use Rattle.design_problem.specs.ProblemLaws.{HasNoFit}
 use Rattle.design_problem.specs.Text.{text}
 use Rattle.evidence_text.specs.AnswerValues.{IsAnswerValue}
-use Rattle.command_words.specs.Jobs.{SearchLimits, Help, Version}
+use Rattle.command_words.specs.Jobs.{Help, Version}
+use Rattle.wide_fraction.specs.SearchLimits.{SearchLimits}
 use Rattle.command_words.specs.declared.job.CommandName.{CommandName}
 use Rattle.trial_maker.specs.TrialTexts.{made_trial}
 use Rattle.config_writer.specs.Rewriting.{first_missing}
@@ -59,8 +60,8 @@ use Rattle.evidence_commands.specs.Checks.{MayCheck}
 use Rattle.design_commands.specs.Designs.{MayDesign}
 use Rattle.evidence_commands.specs.Rewrites.{MayRewrite}
 
--- The budget can't be used up: over the box at any cap that isn't below a lower bound no earnest tree has an undone entry and
--- exactly as many entries as the budget.
+-- The budget can't be used up: over the box at any cap that isn't below a lower bound no earnest tree has an undone
+-- entry and exactly as many entries as the budget.
 abbrev pub CannotBeUndecided : SearchLimits → DesignProblem → Type 0
 CannotBeUndecided limits p =
     (cap : ℕ) (rows : List Row) (tree : List Entry) → All (λ low. low ≤ cap) p.low → All (IsRow p) rows →
@@ -85,15 +86,16 @@ TrialsAreDesigned =
     (blocks start : ℕ) (d : Input) (end : Status) (bytes : List ℕ) →
     trial_end (made_trial blocks start) ≡ Says d → CannotBeUndecided trial_limits d.problem → MayTrial blocks start end bytes → IsRunSettled d.problem end
 
--- Where the files of a check say a problem and the text of a valid answer, nothing may be written but that it is accepted.
+-- Where the files of a check say a problem and the text of a valid answer, nothing may be written but that it is
+-- accepted.
 abbrev pub ValidAnswersAreAccepted : Type 0
 ValidAnswersAreAccepted =
     (names : InputFiles) (answer : List ℕ) (came : List Taken) (claim : Claim) (a : AnswerParts) (end : Status) (bytes : List ℕ) →
     EndsAs (claim_read names answer) came (Says claim) → IsAnswerValue a → claim.bytes ≡ text a → IsValid claim.problem a →
     MayAfter (claim_read names answer) MayCheck came end bytes → end ≡ status.Done
 
--- A check of what a design printed with status Done or Impossible, after the same input, may write nothing but that it is
--- accepted.
+-- A check of what a design printed with status Done or Impossible, after the same input, may write nothing but that it
+-- is accepted.
 abbrev pub DesignsAreAccepted : Type 0
 DesignsAreAccepted =
     (limits : SearchLimits) (d : Input) (aim : Status) (printed : List ℕ) → (aim ≡ status.Done) ⊎ (aim ≡ status.Impossible) → MayDesign limits d aim printed →
@@ -107,8 +109,8 @@ WellFormedInputIsAudited =
     (names : InputFiles) (came : List Taken) (d : Input) (end : Status) (bytes : List ℕ) →
     EndsAs (outcome AtPresent names) came (Says d) → MayAfter (outcome AtPresent names) MayAudit came end bytes → end ≡ status.Done
 
--- Where the files of a rewrite say a configuration and a text with costs, an answer's or another one, whose lines of its
--- router are of interfaces with heads in it, nothing may be written but the configuration with these costs.
+-- Where the files of a rewrite say a configuration and a text with costs, an answer's or another one, whose lines of
+-- its router are of interfaces with heads in it, nothing may be written but the configuration with these costs.
 abbrev pub HeadedCostsAreWritten : Type 0
 HeadedCostsAreWritten =
     (config answer : List ℕ) (came : List Taken) (r : Revision) (costs : List CostLine) (end : Status) (bytes : List ℕ) →
@@ -120,8 +122,8 @@ HeadedCostsAreWritten =
 abbrev pub IsLarge : SearchLimits → DesignProblem → Type 0
 IsLarge limits p = 2 * points (whole_box p) ≤ limits.nodes + 1
 
--- Where its files say a problem, `conflict` may write nothing but what it found: that is settled where the budget can't be
--- used up for a set of requests.
+-- Where its files say a problem, `conflict` may write nothing but what it found: that is settled where the budget can't
+-- be used up for a set of requests.
 abbrev pub ConflictsAreFound : Type 0
 ConflictsAreFound =
     (limits : SearchLimits) (names : InputFiles) (came : List Taken) (d : Input) (end : Status) (bytes : List ℕ) →
@@ -141,8 +143,8 @@ abbrev pub CannotBeUndecidedOnSharing : SearchLimits → Sharing → Type 0
 CannotBeUndecidedOnSharing limits sharing =
     (sets : List (List ℕ)) → AreSetsIn sets sharing → CannotBeUndecidedOnSpread sharing.input.problem sets limits.top limits.nodes
 
--- Where its files say a problem and sets of its wanted paths, `spread` may write nothing but what it found: that is settled
--- where the budget can't be used up.
+-- Where its files say a problem and sets of its wanted paths, `spread` may write nothing but what it found: that is
+-- settled where the budget can't be used up.
 abbrev pub SpreadsAreFound : Type 0
 SpreadsAreFound =
     (limits : SearchLimits) (names : InputFiles) (file : List ℕ) (came : List Taken) (sharing : Sharing) (end : Status) (bytes : List ℕ) →
@@ -150,8 +152,8 @@ SpreadsAreFound =
     ((end ≡ status.Done) ⊎ (end ≡ status.Impossible) ⊎ (end ≡ status.Undecided))
     × (CannotBeUndecidedOnSharing limits sharing → IsSpreadSettled sharing end)
 
--- The budget can't be used up for a bound of the total: over the box at the greatest of best costs no earnest tree, by rivals
--- and the form of the total, has an undone entry and exactly as many entries as the budget.
+-- The budget can't be used up for a bound of the total: over the box at the greatest of best costs no earnest tree, by
+-- rivals and the form of the total, has an undone entry and exactly as many entries as the budget.
 abbrev pub CannotBeUndecidedOnTotal : SearchLimits → DesignProblem → Type 0
 CannotBeUndecidedOnTotal limits p =
     (w : List ℕ) (bound : ℕ) (rows : List Row) (tree : List Entry) → AreBestCosts p w → All (IsRow p) rows →
@@ -181,8 +183,8 @@ LargeBudgetsSuffice =
     × ((limits : SearchLimits) (names : InputFiles) (file : List ℕ) (came : List Taken) (sharing : Sharing) →
     EndsAs (spread_read names file) came (Says sharing) → IsLarge limits sharing.input.problem → CannotBeUndecidedOnSharing limits sharing)
 
--- Where its files say a problem, `change` may write nothing but what it found: that is settled where the budget can't be used
--- up for a set of variables that keep their present costs, or for a cover tree.
+-- Where its files say a problem, `change` may write nothing but what it found: that is settled where the budget can't
+-- be used up for a set of variables that keep their present costs, or for a cover tree.
 abbrev pub ChangesAreFound : Type 0
 ChangesAreFound =
     (limits : SearchLimits) (names : InputFiles) (came : List Taken) (d : Input) (end : Status) (bytes : List ℕ) →
@@ -202,8 +204,8 @@ pub record AreStepsSettled (by : StepUnit) (plan : Plan) (lines : List CostLine)
 abbrev pub CannotBeUndecidedOnSteps : ℕ → Rollout → Type 0
 CannotBeUndecidedOnSteps nodes r = (held : List ℕ) → AreHeld r held → 2 ^ length (steps_between r held) ≤ nodes
 
--- Where its files say a network and a text with cost lines of its linked interfaces, none named twice, `steps` may write
--- nothing but what it found: that is settled where the budget can't be used up.
+-- Where its files say a network and a text with cost lines of its linked interfaces, none named twice, `steps` may
+-- write nothing but what it found: that is settled where the budget can't be used up.
 abbrev pub StepsAreFound : Type 0
 StepsAreFound =
     (nodes : ℕ) (by : StepUnit) (names : InputFiles) (answer : List ℕ) (came : List Taken) (plan : Plan) (lines : List CostLine)
@@ -212,7 +214,8 @@ StepsAreFound =
     ((end ≡ status.Done) ⊎ (end ≡ status.Impossible) ⊎ (end ≡ status.Undecided))
     × (CannotBeUndecidedOnSteps nodes (rollout_of by plan.input lines) → AreStepsSettled by plan lines end)
 
--- Where the files of `lsas` say a problem, and each configuration a router ID of its own, nothing may be written but the LSAs.
+-- Where the files of `lsas` say a problem, and each configuration a router ID of its own, nothing may be written but
+-- the LSAs.
 abbrev pub IdentifiedInputIsWritten : Type 0
 IdentifiedInputIsWritten =
     (names : InputFiles) (came : List Taken) (d : Input) (end : Status) (bytes : List ℕ) →

@@ -160,10 +160,7 @@ pub(crate) fn job_report<'a, S: Shelf>(
             nodes,
             by,
             configs,
-        } => {
-            let steps = steps_words(answer, *nodes, *by);
-            steps_report(alloc, files(request, configs), steps, shelf)
-        }
+        } => steps_report(alloc, files(request, configs), steps_words(answer, *nodes, *by), shelf),
         Job::Compare {
             live,
             request,

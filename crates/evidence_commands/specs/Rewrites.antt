@@ -1,4 +1,5 @@
--- What a rewrite makes of a configuration and a file with costs: an answer's, or what `total`, `spread` or `change` writes.
+-- What a rewrite makes of a configuration and a file with costs: an answer's, or what `total`, `spread` or `change`
+-- writes.
 use Rattle.std.specs.Prelude.{◌≡◌, ℕ, ◌-◌, ◌^◌, ◌<◌, ◌⊎◌, List, [], ◌∷◌, ◌++◌, length, Bool, if◌then◌else◌, Option, None, Some}
 use Rattle.std.specs.List.{filter, list_any}
 use Rattle.cost_base.specs.declared.Status.{Status}

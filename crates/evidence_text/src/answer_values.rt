@@ -191,8 +191,8 @@ fn keeps_tree(tree: &Option<CapTree>)
     }
 }
 
-/// An answer is a value of its type: its numbers are within their bounds, its trees are whole, its text is
-/// in the grammar.
+/// For the prover alone: keeps that an answer is a value of its type: its numbers are within their bounds, its trees
+/// are whole, its text is in the grammar. It changes nothing.
 pub fn keeps_answer(answer: &Answer)
     ensures { IsAnswerValue answer.now }
 {

@@ -19,7 +19,7 @@ use Rattle.design_problem.proofs.Renumbering.{opens_kept}
 use Rattle.design_problem.proofs.TreeShapes.{sound_whole}
 use Rattle.form_search.specs.Sources.{Grows, SameFor}
 use Rattle.form_search.specs.Points.{IsCostsBox}
-use Rattle.form_search.specs.Finds.{IsSearchTree, IsShort}
+use Rattle.design_problem.specs.SearchTrees.{IsSearchTree, IsShort}
 use Rattle.form_search.specs.declared.found.Found.{Found}
 use Rattle.form_search.specs.declared.found.Found.TheVariants.{Undecided}
 use Rattle.form_search.specs.declared.next_entry.Next.{Next}

@@ -1,5 +1,5 @@
--- Rounds of a relaxation: the forms fit the box, the tableau that is kept holds the first forms of a pool that grew, and
--- each new form is one that was missing.
+-- Rounds of a relaxation: the forms fit the box, the tableau that is kept holds the first forms of a pool that grew,
+-- and each new form is one that was missing.
 use Rattle.std.proofs.Common.{◌≡◌, ℕ, ◌<◌, refl, sym, ◌∙◌, subst, inl, inr, List, ◌++◌, length, Option, None, Some, Ok, arith}
 use Rattle.std.specs.Prelude.{All, Contains, Result, Err, IfOk, IfSome}
 use Rattle.std.proofs.lemmas.List.{length-append, take-append-le}

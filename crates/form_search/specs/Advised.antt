@@ -20,8 +20,8 @@ use Rattle.form_search.specs.declared.next_entry.Next.{Next}
 use Rattle.form_search.specs.declared.next_entry.Next.TheVariants.{Forms, Costs as ByCosts, Entry as ByEntry}
 use Rattle.form_search.specs.Points.{AreCostsThere, candidates_at}
 
--- The advisors are asked for a Split of the box: their choices are the variables that are fractional at a point of it, each
--- once, and the Split is at the choice that they pick. Which point is asked for, and what a pick does, are given.
+-- The advisors are asked for a Split of the box: their choices are the variables that are fractional at a point of it,
+-- each once, and the Split is at the choice that they pick. Which point is asked for, and what a pick does, are given.
 pub record AreAskedFor {A : Type 0} (IsHere : CostBox → Point → Type 0) (Picks : List Candidate → ℕ → List A → List A → Type 0)
     (box : CostBox) (var value : ℕ) (old new : List A) : Type 0 where
   pub point : Point
@@ -43,8 +43,8 @@ AreReadyFor IsHere Picks box (Halve var value wide) old new = new ≡ old
 AreReadyFor IsHere Picks box (Refute parts) old new = new ≡ old
 AreReadyFor IsHere Picks box Undone old new = new ≡ old
 
--- The calls along a tree that grows over a box, entry by entry: of each entry the advisors are told once, and before each
--- Split, and no other entry, they are asked for it at the open box.
+-- The calls along a tree that grows over a box, entry by entry: of each entry the advisors are told once, and before
+-- each Split, and no other entry, they are asked for it at the open box.
 pub data AreCalledAlong {A : Type 0} (IsHere : CostBox → Point → Type 0) (Picks : List Candidate → ℕ → List A → List A → Type 0)
     (Tells : Entry → List A → List A → Type 0) (box : CostBox) : Growing → List A → List A → Type 0 where
   begun : (old : List A) → AreCalledAlong IsHere Picks Tells box (record { entries = []; places = fresh box ∷ [] }) old old
@@ -104,8 +104,9 @@ pub data AreAdvisorsLeft {A : Type 0} (Search : List A → List A → Type 0) : 
   none : (xs : List A) → AreAdvisorsLeft Search xs xs
   more : (xs ys zs : List A) → AreAdvisorsLeft Search xs ys → Search ys zs → AreAdvisorsLeft Search xs zs
 
--- The advisors that are left by some searches: the rules of its kind tell what each picks, and how a call leaves it. So one
--- that was dropped picked out of range, and each other one was told all entries and asked for each Split that came to it.
+-- The advisors that are left by some searches: the rules of its kind tell what each picks, and how a call leaves it. So
+-- one that was dropped picked out of range, and each other one was told all entries and asked for each Split that came
+-- to it.
 abbrev pub AreCalled : {A V : Type 0} {X : V → Type 0} → ((rules : V) → Ghosts (X rules)) → (A → V) → (A → List ℕ) → List A → List A → Type 0
 AreCalled members rules state =
     AreAdvisorsLeft (by_rules IsSearched members rules state)

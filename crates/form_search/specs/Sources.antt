@@ -29,7 +29,8 @@ scaled w scale = record { scale = scale; values = map (λ x. x * scale) w }
 abbrev pub SameFor : {X : Type 0} → (X → Type 0) → (X → Type 0) → Type 0
 SameFor {X} Before After = (x : X) → Before x ↔ After x
 
--- what no call of a source changes: how many variables it has, what it accepts, which forms are true, and the list of these
+-- what no call of a source changes: how many variables it has, what it accepts, which forms are true, and the list of
+-- these
 pub record SameSource {Source : Type 0} (count : Source → ℕ) (accepted : Source → Point → Type 0) (true_form : Source →
     Form → Type 0) (candidates : Source → List Form) (old new : Source) : Type 0 where
   pub same_count : count new ≡ count old

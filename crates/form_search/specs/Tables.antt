@@ -20,7 +20,8 @@ use Rattle.form_search.specs.declared.relaxation.Relaxed.TheVariants.{Accepted, 
 use Rattle.form_search.specs.Points.{IsLeastOf}
 use Rattle.form_search.specs.Turns.{HasNew}
 
--- A tableau in n variables that holds the first forms of the pool; where a step has stopped it, maybe one more than it counts.
+-- A tableau in n variables that holds the first forms of the pool; where a step has stopped it, maybe one more than it
+-- counts.
 pub record IsHeld (top n : ℕ) (forms : List Form) (table : HeldTableau) : Type 0 where
   pub same_top : table.tableau.top ≡ top
   pub noted_top : table.top ≡ top
@@ -82,7 +83,8 @@ abbrev pub IsStepTold : CostBox → List Form → TableauState → SimplexStop �
 IsStepTold box forms tableau (StepTooWide wide) = IsStepTooWide tableau.top box tableau.rows (wide_at wide tableau.basis)
 IsStepTold box forms tableau OutOfMemory = Unit {0}
 
--- what the relaxation of a box comes to: its least accepted point, multipliers that refute it, or a step that is too wide
+-- what the relaxation of a box comes to: its least accepted point, multipliers that refute it, or a step that is too
+-- wide
 abbrev pub IsRelaxation : (Point → Type 0) → ℕ → CostBox → List Form → Point → Relaxed → Type 0
 IsRelaxation accepted top box forms point Accepted = IsLeastOf accepted box point
 IsRelaxation accepted top box forms point (NoneIsMet parts) = RefutesBy box forms parts

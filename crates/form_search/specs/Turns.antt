@@ -20,7 +20,7 @@ use Rattle.form_search.specs.declared.next_entry.Next.TheVariants.{Forms, Costs,
 use Rattle.form_search.specs.declared.next_entry.Desk.{Desk}
 use Rattle.form_search.specs.declared.watch.Watch.{Watch}
 use Rattle.cut_advisors.specs.declared.candidate.Candidate.{Candidate}
-use Rattle.form_search.specs.Finds.{IsShort}
+use Rattle.design_problem.specs.SearchTrees.{IsShort}
 use Rattle.form_search.specs.Points.{AreCostsThere, IsFractional}
 
 -- an entry that may come next at the place, over the pool's forms
@@ -99,8 +99,8 @@ IsSoundNext box Forms = Unit {0}
 IsSoundNext box (Costs w) = Unit {0}
 IsSoundNext box (ByEntry entry) = (forms : List Form) × SoundAt forms box entry
 
--- what a tree comes to by what comes next: the search goes on with the tree, maybe by one entry longer; it ends with costs;
--- or, where the tree has as many entries as it may have, it ends with an Undone at each open place
+-- what a tree comes to by what comes next: the search goes on with the tree, maybe by one entry longer; it ends with
+-- costs; or, where the tree has as many entries as it may have, it ends with an Undone at each open place
 abbrev pub turned : ℕ → Growing → Next → ControlFlow Found Growing
 turned nodes tree Forms = Continue tree
 turned nodes tree (Costs w) = Break (FoundCosts w)

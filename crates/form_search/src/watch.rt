@@ -55,6 +55,7 @@ fn wake(
     waiting: &mut BinaryHeap<Reverse<usize>>,
     row: usize,
 ) -> Result<(), OutOfMemory> {
+    // For the prover: so are the numbers of forms.
     if let Some(pending) = pending.get_mut(row) {
         if !*pending {
             waiting.push(Reverse(row))?;
@@ -233,6 +234,7 @@ impl Watch {
     {
         match self.waiting.pop() {
             Some(Reverse(row)) => {
+                // For the prover: a form that waits is in range.
                 if let Some(pending) = self.pending.get_mut(row) {
                     *pending = false;
                 }

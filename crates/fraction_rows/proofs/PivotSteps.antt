@@ -61,8 +61,8 @@ quotient_other j place q es other place_in =
     ∙ ap (λ b. cond b nothing (divided (entry es place) q))
     (other_test (0 + place) j (λ same. other (sym (zero-add place) ∙ same)))
 
--- A crossing of a line with the quotients: a step with a quotient that isn't 0 is one of the basis, and one with 0 makes
--- no number that passes the top.
+-- A crossing of a line with the quotients: a step with a quotient that isn't 0 is one of the basis, and one with 0
+-- makes no number that passes the top.
 crossing_is_step : (top : ℕ) (costs : CostBox) (rows : List Form) (basis : List Member) (lows : List (List Fraction))
     (r f : Member) (es fs : List Fraction) (j : ℕ) → IsFormLine top costs rows basis r es → IsPivot basis es j →
     IsFormLine top costs rows basis f fs → (step : StepName) (left right : Fraction) →

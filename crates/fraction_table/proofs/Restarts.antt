@@ -80,8 +80,8 @@ terms_put constant first a qs (negsuc n ∷ cs) long =
     (terms_put constant (suc first) (a + 1) (qs ++ whole (negsuc n) ∷ []) cs
     (one_longer qs (whole (negsuc n)) first long))
 
--- What a line is on its way to that of a form: with the terms from the counter on it is that line, and it has 0 from the
--- next term's variable on.
+-- What a line is on its way to that of a form: with the terms from the counter on it is that line, and it has 0 from
+-- the next term's variable on.
 pub record IsPutTo (constant : ℤ) (cs : List ℤ) (ts : List Term) (index : ℕ) (line : List Fraction) : Type 0 where
   pub long : length line ≡ suc (length cs)
   pub left : with_terms line (drop index ts) ≡ whole constant ∷ map whole cs

@@ -1,4 +1,5 @@
--- At the starting basis the table is whole: a form's numbers over 1 are its value at the low corner and its coefficients.
+-- At the starting basis the table is whole: a form's numbers over 1 are its value at the low corner and its
+-- coefficients.
 use Rattle.std.proofs.Common.{◌≡◌, ◌≢◌, ℕ, zero, suc, ◌+◌, ◌<◌, refl, sym, ◌∙◌, ap, subst, List, [], ◌∷◌, ◌++◌, map, length, arith, zero-add}
 use Rattle.std.specs.Prelude.{ℤ, pos, ◌+ℤ◌, ◌*ℤ◌, slice_index, slice_index_or, All}
 use Rattle.std.specs.List.{AllZip}

@@ -31,8 +31,8 @@ use Rattle.input_files.specs.Readings.{Reading, Ready, ◌>>=◌, unless_refused
 use Rattle.input_files.proofs.Readings.{one_said, said_faulty, said_failed, said_unless, was_read}
 use Rattle.input_files.specs.Outcomes.{ConfigFile, Input, request_read, config_read, config_refused, configs_read, routers_of, topology_read, topology_refused_at, problem_read, resolution_refused, outcome}
 
--- no configuration and not the topology has a fault; the database is that of the configurations, and the problem that of
--- the request file
+-- no configuration and not the topology has a fault; the database is that of the configurations, and the problem that
+-- of the request file
 pub record IsReadyInput (d : Input) : Type 0 where
   pub accepted : All (λ file. config_fault file.name file.bytes ≡ None) d.files
   pub faultless : topology_fault d.asked.area (routers_of d.files) ≡ None

@@ -27,8 +27,8 @@ area_read names =
 abbrev pub lines_read : InputFiles → Asked → Database → Reading (Unit {0})
 lines_read names asked d = unless_refused (resolution_refused names d) tt (first_of (line_faults d asked.items))
 
--- what the files of a network say but for its costs: the request file, each configuration, the topology, the lines of the
--- request file
+-- what the files of a network say but for its costs: the request file, each configuration, the topology, the lines of
+-- the request file
 abbrev pub layout_read : InputFiles → Reading LaidOut
 layout_read names = area_read names >>= λ laid. lines_read names laid.asked laid.database >>= λ _. Ready laid
 

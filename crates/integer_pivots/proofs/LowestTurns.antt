@@ -1,4 +1,5 @@
--- What a line comes to in lowest terms once it has turned: it is one, and goes into every other form of the turned line.
+-- What a line comes to in lowest terms once it has turned: it is one, and goes into every other form of the turned
+-- line.
 use Rattle.std.proofs.Common.{◌≡◌, ℕ, zero, suc, ◌*◌, ◌/◌, ◌^◌, ◌<◌, ◌≤◌, refl, sym, ◌∙◌, ap, subst, [], ◌∷◌, length, arith, inl, inr}
 use Rattle.std.specs.Prelude.{ℤ, pos, negsuc, ◌*ℤ◌, ◌<ℤ◌, ◌≤ℤ◌, nat_abs}
 use Prim.Native.Nat.{◌∣◌}

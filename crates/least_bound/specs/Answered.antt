@@ -54,8 +54,8 @@ VerdictHolds p top nodes a (Undecided cap) = IsUndecided p top nodes cap a
 abbrev pub IsAnswerSheet : DesignProblem → List Row → Option CapTree → Option CapTree → Type 0
 IsAnswerSheet p rows proof unfinished = IsSheet (IsRow p) Differ 0 rows (entries_in proof ++ entries_in unfinished)
 
--- an answer to a problem: it is valid, or the budget was used up; a proof in it is an earnest tree, and just the rows that
--- its trees name are printed
+-- an answer to a problem: it is valid, or the budget was used up; a proof in it is an earnest tree, and just the rows
+-- that its trees name are printed
 pub record IsDesignAnswer (p : DesignProblem) (top nodes : ℕ) (a : AnswerParts) : Type 0 where
   pub holds : VerdictHolds p top nodes a a.verdict
   pub proof : ProofIsPrinted p top nodes a.rows a.proof

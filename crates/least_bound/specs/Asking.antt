@@ -1,4 +1,5 @@
--- How the searches of a design call the advisors: which caps are decided, in order, and what the answer tells of what was found.
+-- How the searches of a design call the advisors: which caps are decided, in order, and what the answer tells of what
+-- was found.
 use Rattle.std.specs.Prelude.{◌≡◌, ℕ, ◌+◌, ◌-◌, ◌*◌, ◌/◌, min, max, nat_lt, if◌then◌else◌, List, [], ◌∷◌, Option, None, Some}
 use Rattle.design_problem.specs.declared.answer.CapTree.{CapTree}
 use Rattle.design_problem.specs.declared.tree.Entry.{Entry}
@@ -21,10 +22,10 @@ pub record CapDecision : Type 0 where
   pub pool : Pooled
   pub found : Found
 
--- What the caps so far have come to. Fit costs have at least the greatest cost `least`; `most` is the greatest cost of the
--- costs that were found last, or the least cap at which the budget was used up. `refuted` is the closed tree at the greatest
--- refuted cap, and `unfinished` the tree that used up the budget: with costs the one at `most`, without any the one at the
--- greatest bound.
+-- What the caps so far have come to. Fit costs have at least the greatest cost `least`; `most` is the greatest cost of
+-- the costs that were found last, or the least cap at which the budget was used up. `refuted` is the closed tree at the
+-- greatest refuted cap, and `unfinished` the tree that used up the budget: with costs the one at `most`, without any
+-- the one at the greatest bound.
 pub record CapsSoFar : Type 0 where
   pub least : ℕ
   pub most : ℕ
@@ -36,8 +37,8 @@ pub record CapsSoFar : Type 0 where
 abbrev pub halved_cap : ℕ → ℕ → Option ℕ
 halved_cap least most = if nat_lt least most then Some ((least + most - 1) / 2) else None
 
--- Without costs the caps climb, from the greatest lower bound or the greatest refuted cap on, while the next one is less than
--- `most`: 1, 3, 7 and so on above the greatest lower bound, but not beyond the middle.
+-- Without costs the caps climb, from the greatest lower bound or the greatest refuted cap on, while the next one is
+-- less than `most`: 1, 3, 7 and so on above the greatest lower bound, but not beyond the middle.
 abbrev pub climbed_cap : ℕ → ℕ → ℕ → Option ℕ
 climbed_cap floor passed most = if nat_lt (passed + 1) most then Some (min ((passed + most) / 2) (2 * passed - floor + 1)) else None
 
@@ -79,7 +80,8 @@ after_greatest_bound p (Undecided tree) = record {
   unfinished = Some (record { cap = greatest_bound p; tree = tree });
 }
 
--- The answer tells what was found: these costs, if any, and these two trees at their caps, if any, with new numbers of rows.
+-- The answer tells what was found: these costs, if any, and these two trees at their caps, if any, with new numbers of
+-- rows.
 pub record TellsFound (p : DesignProblem) (found : Option (List ℕ)) (refuted undecided : Option CapTree) (a : AnswerParts) : Type 0 where
   pub costs : ArePrintedIfAny p found a.costs
   pub number : ℕ → ℕ
@@ -90,7 +92,8 @@ pub record TellsFound (p : DesignProblem) (found : Option (List ℕ)) (refuted u
 abbrev pub TellsCaps : DesignProblem → CapsSoFar → AnswerParts → Type 0
 TellsCaps p s a = TellsFound p s.costs s.refuted s.unfinished a
 
--- the decided caps are those that come next, one after another, until none is left, and the answer tells what they came to
+-- the decided caps are those that come next, one after another, until none is left, and the answer tells what they came
+-- to
 abbrev pub AreCapsInOrder : DesignProblem → CapsSoFar → List CapDecision → AnswerParts → Type 0
 AreCapsInOrder p s [] a = (next_cap p s ≡ None) × TellsCaps p s a
 AreCapsInOrder p s (d ∷ ds) a = (next_cap p s ≡ Some d.cap) × AreCapsInOrder p (after_cap s d.cap d.found) ds a

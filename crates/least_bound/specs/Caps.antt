@@ -79,7 +79,8 @@ caps_of progress = record {
   unfinished = unfinished_of progress.best;
 }
 
--- behind what the caps so far have come to, a search called the advisors, by their rules, for each further one, until the answer
+-- behind what the caps so far have come to, a search called the advisors, by their rules, for each further one, until
+-- the answer
 abbrev pub AreAskedOn : {A V : Type 0} {X : V → Type 0} → ((rules : V) → Ghosts (X rules)) → (A → V) → (A → List ℕ) →
     DesignProblem → ℕ → ℕ → CapsSoFar → List A → List A → AnswerParts → Type 0
 AreAskedOn members rules state p top nodes s old new a = (ds : List CapDecision) × AreCapsInOrder p s ds a

@@ -13,8 +13,8 @@ ghost use Rattle.least_bound.specs.Printing.{ArePrintedIfAny, IsFloorFor};
 use crate::floor::floor_of;
 use crate::progress::{Best, Progress};
 use cost_base::OutOfMemory;
-use cost_branching::{Pool, keeps_conditions};
-use design_problem::{Answer, CapTree, CostList, Costs, Floor, Problem, Tree, Verdict};
+use cost_branching::Pool;
+use design_problem::{Answer, CapTree, CostList, Costs, Floor, Problem, Tree, Verdict, keeps_problem_on_graph};
 use printed_rows::{printed_both, printed_costs};
 use std::alloc::Global;
 
@@ -35,7 +35,7 @@ pub(crate) fn impossible(
     ensures tells { IfOk result (TellsFound problem.now None
         (Some (record { cap = cap; tree = tree })) None) }
 {
-    keeps_conditions(problem);
+    keeps_problem_on_graph(problem);
     let alloc = pool.alloc();
     let proof = CapTree { cap, tree };
     let printed = printed_both(alloc, pool.into_rows(), Some(&proof), None)?;
@@ -75,7 +75,7 @@ fn optimal(
         IfOk result (IsDesignAnswer problem.now top nodes) }
     ensures tells { IfOk result (TellsFound problem.now (Some costs.now) kept None) }
 {
-    keeps_conditions(problem);
+    keeps_problem_on_graph(problem);
     let alloc = pool.alloc();
     let floor = floor_without(problem, &kept);
     let printed = printed_both(alloc, pool.into_rows(), kept.as_ref(), None)?;
@@ -95,7 +95,7 @@ fn printed_fit(alloc: Global, problem: &Problem, costs: &CostList) -> Result<Cos
     requires { IsFit problem.now costs.now }
     ensures { IfOk result (ArePrintedCosts problem.now costs.now) }
 {
-    keeps_conditions(problem);
+    keeps_problem_on_graph(problem);
     printed_costs(alloc, problem, costs.as_slice())
 }
 
@@ -114,7 +114,7 @@ fn printed_if_any(
     }
 }
 
-/// The cap of a tree.
+/// The cap of a tree. For the prover: a call, so that the caller's goals have this part alone.
 fn cap_of(tree: &CapTree) -> u16
     ensures { result ≡ tree.now.cap }
 {
@@ -147,7 +147,7 @@ fn undecided(
     ensures tells { IfOk result (TellsFound problem.now (option_copied costs.entry) kept
         (Some unfinished)) }
 {
-    keeps_conditions(problem);
+    keeps_problem_on_graph(problem);
     let alloc = pool.alloc();
     let cap = cap_of(&unfinished);
     let printed = printed_both(alloc, pool.into_rows(), kept.as_ref(), Some(&unfinished))?;

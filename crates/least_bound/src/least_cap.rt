@@ -9,9 +9,9 @@ ghost use Rattle.least_bound.specs.Caps.{AreAskedOn, IsProgress, caps_of};
 use crate::answering::impossible;
 use crate::progress::{Best, Progress};
 use cost_base::OutOfMemory;
-use cost_branching::{Found, Pool, decide, keeps_conditions};
+use cost_branching::{Found, Pool, decide};
 use cut_advisors::Advisor;
-use design_problem::{Answer, CapTree, Problem, greatest_of};
+use design_problem::{Answer, CapTree, Problem, greatest_of, keeps_problem_on_graph};
 use std::alloc::Global;
 use wide_fraction::Limits;
 
@@ -32,7 +32,7 @@ fn narrowed(
     ensures advisors { AreCalled ⟦<dyn Advisor as Advisor>⟧ (λ b. b.vtable) (λ b. state b)
         advisors.old.items advisors.new.items }
 {
-    keeps_conditions(problem);
+    keeps_problem_on_graph(problem);
     let mut pool = pool;
     let mut progress = progress;
     while let Some(cap) = progress.next_cap() {
@@ -69,7 +69,7 @@ pub fn least(
     ensures advisors { AreCalled ⟦<dyn Advisor as Advisor>⟧ (λ b. b.vtable) (λ b. state b)
         advisors.old.items advisors.new.items }
 {
-    keeps_conditions(problem);
+    keeps_problem_on_graph(problem);
     let cap = greatest_of(problem.high.as_slice());
     let mut pool = Pool::new(alloc);
     match decide(problem, cap, limits, &mut pool, advisors)? {

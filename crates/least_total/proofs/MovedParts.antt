@@ -1,4 +1,5 @@
--- The parts of a Refute with those of one form behind the others: they refute what they refuted, and rise by their new numbers.
+-- The parts of a Refute with those of one form behind the others: they refute what they refuted, and rise by their new
+-- numbers.
 use Rattle.std.proofs.Common.{◌≡◌, ◌≢◌, ℕ, suc, ◌+◌, ◌-◌, ◌<◌, ◌≤◌, refl, sym, ◌∙◌, ap, subst, List, [], ◌∷◌, ◌++◌, map, length, length-append, append-nil, arith, Bool, true, false, not, cond, inl, inr, eqb}
 use Rattle.std.specs.Prelude.{ℤ, pos, ◌+ℤ◌, ◌*ℤ◌, ◌<ℤ◌, ◌==◌, ◌⊎◌, All, AllPairs, sum_by, slice_index_or, if◌then◌else◌}
 use Rattle.std.proofs.lemmas.Int.{ints}

@@ -17,7 +17,7 @@ use Rattle.design_problem.specs.Earnest.{OpenPlace, Earnest, EarnestAt, subplace
 use Rattle.design_problem.specs.OpenPlaces.{UndoneLast, undones}
 use Rattle.design_problem.specs.Renumbering.{IsRenumbering, renumbered, renumbered_member, renumbered_part}
 use Rattle.design_problem.proofs.Renumbering.{renumbered_tree}
-use Rattle.form_search.specs.Finds.{IsSearchTree, IsShort}
+use Rattle.design_problem.specs.SearchTrees.{IsSearchTree, IsShort}
 use Rattle.printed_rows.specs.NamedRows.{NamesBelow}
 use Rattle.printed_rows.specs.NewNumbers.{KeepsOrder, number_given}
 use Rattle.printed_rows.proofs.NamedLaws.{entry_agrees}

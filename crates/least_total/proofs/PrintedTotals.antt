@@ -19,7 +19,7 @@ use Rattle.design_problem.specs.Earnest.{Earnest, OpenPlace}
 use Rattle.design_problem.specs.Renumbering.{IsRenumbering, renumbered}
 use Rattle.design_problem.proofs.OpenPlaces.{opens_ends, earnest_opens}
 use Rattle.design_problem.proofs.Renumbering.{forms_kept, opens_kept, renumbered_sound, renumbered_tree, same_entry, same_entries}
-use Rattle.form_search.specs.Finds.{IsSearchTree}
+use Rattle.design_problem.specs.SearchTrees.{IsSearchTree}
 use Rattle.printed_rows.specs.NamedRows.{NamesBelow, is_row_named}
 use Rattle.printed_rows.specs.NewNumbers.{IsTreePrinted, kept_from, kept_rows, new_number}
 use Rattle.printed_rows.specs.PrintedTrees.{IsPrintedOver}

@@ -2,15 +2,15 @@
 use Rattle.std.specs.Prelude.{◌≡◌, ℕ, ◌^◌, ◌<◌, ◌≤◌, ◌⊎◌, List, ◌∷◌, ◌++◌, take, drop, length, Option, None, Some}
 use Rattle.design_problem.specs.Forms.{Form}
 use Rattle.design_problem.specs.declared.form.Row.{Row}
-use Rattle.design_problem.specs.Problems.{DesignProblem}
+use Rattle.design_problem.specs.Problems.{DesignProblem, IsProblemOnGraph}
 use Rattle.design_problem.specs.Rows.{forms_of_rows}
 use Rattle.cost_branching.specs.Candidates.{candidate_forms}
 use Rattle.cost_branching.specs.Pools.{ArePoolRows}
-use Rattle.cost_branching.specs.Rivals.{IsProblemOnGraph, IsTrueRowForm, KnownRows}
+use Rattle.cost_branching.specs.Rivals.{IsTrueRowForm, KnownRows}
 use Rattle.least_total.specs.Totals.{form_of_total}
 
--- the rows that are known of a problem, the bound of the total, and how many rows came before the form of the total, where
--- that form has come
+-- the rows that are known of a problem, the bound of the total, and how many rows came before the form of the total,
+-- where that form has come
 pub record BoundedRows : Type 0 where
   pub known : KnownRows
   pub most : ℕ

@@ -1,5 +1,5 @@
--- Laws of the source of rivals with a bound of the total: its true forms hold at accepted points, they stand in one list, and
--- what is accepted at multiples of costs is accepted at the costs.
+-- Laws of the source of rivals with a bound of the total: its true forms hold at accepted points, they stand in one
+-- list, and what is accepted at multiples of costs is accepted at the costs.
 use Rattle.std.proofs.Common.{◌≡◌, ℕ, zero, suc, ◌+◌, ◌*◌, ◌^◌, ◌<◌, ◌≤◌, refl, sym, ◌∙◌, subst, ap, inl, inr, List, [], ◌∷◌, map, length, fold, arith}
 use Rattle.std.specs.Prelude.{ℤ, pos, negsuc, ◌+ℤ◌, ◌*ℤ◌, ◌≤ℤ◌, nat_abs, All, Contains, replicate}
 use Rattle.std.specs.List.{sum}

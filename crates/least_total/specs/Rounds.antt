@@ -8,7 +8,8 @@ use Rattle.design_problem.specs.Problems.{DesignProblem}
 use Rattle.design_problem.specs.Boxes.{capped}
 use Rattle.design_problem.specs.Rows.{IsFit, IsRow, box_of, greatest_cost}
 use Rattle.design_problem.specs.Trees.{IsClosed, entry_count}
-use Rattle.form_search.specs.Finds.{IsSearchResult, IsSearchTree}
+use Rattle.form_search.specs.Finds.{IsSearchResult}
+use Rattle.design_problem.specs.SearchTrees.{IsSearchTree}
 use Rattle.cost_branching.specs.Pools.{Differ}
 use Rattle.least_total.specs.declared.rounds.Sought.{Sought}
 use Rattle.least_total.specs.declared.rounds.TotalTree.{TotalTree}
@@ -51,7 +52,8 @@ pub record IsUndecidedWithin (p : DesignProblem) (top nodes cap most : ℕ) (t :
 abbrev pub IsFitWithin : DesignProblem → ℕ → List ℕ → Type 0
 IsFitWithin p cap w = IsFit p w × (greatest_cost w ≤ cap)
 
--- what a round finds: fit costs within the cap of a total of at most `most`, a closed tree, or one that used up the budget
+-- what a round finds: fit costs within the cap of a total of at most `most`, a closed tree, or one that used up the
+-- budget
 abbrev pub IsRound : DesignProblem → ℕ → ℕ → ℕ → ℕ → Round → Type 0
 IsRound p top nodes cap most (Costs w) = IsFitWithin p cap w × (total w ≤ most)
 IsRound p top nodes cap most (Refuted t) = IsRefutedWithin p top nodes cap most t
@@ -76,7 +78,8 @@ abbrev pub EndsAt : DesignProblem → ℕ → ℕ → ℕ → Standing → Optio
 EndsAt p top nodes cap s None = s.total ≤ s.least
 EndsAt p top nodes cap s (Some (most, t)) = (s.least ≤ most) × (most < s.total) × IsUndecidedWithin p top nodes cap most t
 
--- what the rounds come to: costs within the cap, and bounds on the least total that are equal or that the budget left apart
+-- what the rounds come to: costs within the cap, and bounds on the least total that are equal or that the budget left
+-- apart
 pub record IsNarrowed (p : DesignProblem) (top nodes cap : ℕ) (n : Narrowed) : Type 0 where
   pub standing : IsStanding p top nodes cap n.standing
   pub ends : EndsAt p top nodes cap n.standing n.open

@@ -11,8 +11,7 @@ use crate::recosting::{costs_in, recosted};
 use crate::rounds::{Round, TotalTree, one_round};
 use crate::standing::Standing;
 use cost_base::OutOfMemory;
-use cost_branching::keeps_conditions;
-use design_problem::{Answer, Problem, Row, Tree, greatest_of};
+use design_problem::{Answer, Problem, Row, Tree, greatest_of, keeps_problem_on_graph};
 use std::alloc::Global;
 use wide_fraction::Limits;
 
@@ -70,7 +69,7 @@ fn run_rounds(
     requires standing { IsStanding problem.now limits.now.top limits.now.nodes cap standing }
     ensures { IfOk result (IsNarrowed problem.now limits.now.top limits.now.nodes cap) }
 {
-    keeps_conditions(problem);
+    keeps_problem_on_graph(problem);
     let mut standing = standing;
     while let Some(most) = standing.next_bound() {
         match one_round(alloc, problem, cap, most, limits)? {
@@ -127,7 +126,7 @@ pub fn least_total(
     requires optimal { (k : ℕ) × (answer.verdict ≡ Optimal k) }
     ensures { IfOk result (IsTotalAnswer problem.now limits.now.top limits.now.nodes answer) }
 {
-    keeps_conditions(problem);
+    keeps_problem_on_graph(problem);
     let costs = costs_in(alloc, problem, &answer)?;
     let cap = greatest_of(costs.as_slice());
     let standing = Standing::start(problem, costs);

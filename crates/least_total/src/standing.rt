@@ -6,8 +6,7 @@ ghost use Rattle.least_total.specs.Rounds.{IsFitWithin, IsRefutedWithin, IsStand
 
 use crate::rounds::TotalTree;
 use crate::totals::total_of;
-use cost_branching::keeps_conditions;
-use design_problem::{CostList, Problem};
+use design_problem::{CostList, Problem, keeps_problem_on_graph};
 
 /// The costs of the least total so far, and between which ends the least total lies.
 #[derive(Drop)]
@@ -29,7 +28,7 @@ impl Standing {
         ensures { (top nodes cap : ℕ) → IsFitWithin problem.now cap costs →
             IsStanding problem.now top nodes cap result }
     {
-        keeps_conditions(problem);
+        keeps_problem_on_graph(problem);
         Standing {
             total: total_of(costs.as_slice()),
             least: total_of(problem.low.as_slice()),

@@ -20,7 +20,7 @@ json_in area bytes = if is_utf8 bytes then said_by_json area bytes else Err (Bad
 abbrev pub live_in : ℕ → List ℕ → Result (List Lsa) (LiveFault × ℕ)
 live_in area bytes = if begins_object bytes then json_in area bytes else as_live (lsas_in bytes)
 
--- a live file: its size, and then the LSAs of an area up to the first fault, whose place is a line of JSON or an offset in
--- LSA bytes
+-- a live file: its size, and then the LSAs of an area up to the first fault, whose place is a line of JSON or an offset
+-- in LSA bytes
 abbrev pub live_read : List ℕ → ℕ → Reading (List Lsa)
 live_read file area = file_read longest_database file >>= λ bytes. or_refused (place_refused live_fault_number file) (live_in area bytes)

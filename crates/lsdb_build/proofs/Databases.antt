@@ -1,4 +1,5 @@
--- The database of faultless configurations is one: links have other ends, and a subnet's members are the links that lead to it.
+-- The database of faultless configurations is one: links have other ends, and a subnet's members are the links that
+-- lead to it.
 use Rattle.std.proofs.Common.{◌≡◌, ◌≢◌, ℕ, zero, suc, ◌+◌, ◌<◌, ◌≤◌, ◌==◌, ◌⊎◌, inl, inr, Bool, true, false, cond, not, eq-eqb, List, [], ◌∷◌, Some, None, length, map, count_by, refl, sym, ap, ◌∙◌, subst, arith, zero-add, slice_get, slice_index_or, All, AllPairs, unwrap_or}
 use Rattle.std.specs.List.{filter}
 use Rattle.std.proofs.lemmas.Bool.{false≢true, and_parts, and_from, and_right, cases_Bool, eqb-true, ne_eqb, false_from_ne_true, cases_order}

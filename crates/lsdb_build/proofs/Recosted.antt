@@ -1,5 +1,5 @@
--- The topology of an area doesn't depend on the interfaces' costs: with other costs the database has other costs, and nothing else changes;
--- and the first fault is the same.
+-- The topology of an area doesn't depend on the interfaces' costs: with other costs the database has other costs, and
+-- nothing else changes; and the first fault is the same.
 use Rattle.std.proofs.Common.{◌≡◌, ℕ, zero, suc, ◌+◌, refl, sym, ◌∙◌, ap, List, [], ◌∷◌, ◌++◌, length, map, Bool, true, false, cond, Option, Some, None}
 use Rattle.std.specs.Prelude.{filter, unwrap_or, not, slice_get, ◌&&◌, ◌||◌, ◌==◌, nat_le}
 use Rattle.std.specs.List.{list_any}

@@ -51,7 +51,8 @@ is_crowding before p = not (is_broadcast p) && nat_le 2 (count_by (λ q. shares_
 abbrev pub holds : Port → Port → Bool
 holds p q = nat_le p.interface.length q.interface.length && contains p.address p.interface.length q.address
 
--- an interface before this one is of another router and on another subnet, and one of the two subnets contains the other
+-- an interface before this one is of another router and on another subnet, and one of the two subnets contains the
+-- other
 abbrev pub is_overlap : List Port → Port → Bool
 is_overlap before p =
     list_any (λ q. not (q.router == p.router) && not (shares_subnet q p) && (holds q p || holds p q)) before

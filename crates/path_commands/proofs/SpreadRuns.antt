@@ -11,7 +11,7 @@ use Rattle.set_reader.specs.declared.fault.SetFault.{SetFault}
 use Rattle.set_reader.specs.FaultNumbers.{set_fault_number}
 use Rattle.set_reader.specs.Reading.{AreSaid, set_fault}
 use Rattle.set_reader.specs.SpreadSets.{AreSetsOf}
-use Rattle.command_words.specs.Jobs.{SearchLimits}
+use Rattle.wide_fraction.specs.SearchLimits.{SearchLimits}
 use Rattle.input_files.specs.declared.problem.View.TheVariants.{AsRequested}
 use Rattle.input_files.specs.Inputs.{InputFiles}
 use Rattle.input_files.specs.Outcomes.{Input, outcome}

@@ -9,7 +9,7 @@ use Rattle.text_lines.specs.Lines.{with_ends}
 use Rattle.conflict_core.specs.declared.conflict.Conflict.{Conflict}
 use Rattle.conflict_core.specs.declared.conflict.Conflict.TheVariants.{Fits, Core, Undecided as ConflictUndecided}
 use Rattle.conflict_core.specs.Conflicts.{IsConflictFound, all_requests}
-use Rattle.command_words.specs.Jobs.{SearchLimits}
+use Rattle.wide_fraction.specs.SearchLimits.{SearchLimits}
 use Rattle.input_files.specs.Outcomes.{Input}
 use Rattle.printed_parts.specs.SharedParts.{at_greatest_bound, costs_part}
 

@@ -13,7 +13,7 @@ use Rattle.spread_sets.specs.declared.spread.Spread.{Spread}
 use Rattle.spread_sets.specs.declared.spread.Spread.TheVariants.{Fit, Impossible, Undecided}
 use Rattle.spread_sets.specs.Answers.{IsSpreadFound, set_row_line}
 use Rattle.spread_sets.specs.Spreads.{SharesEach, all_sets}
-use Rattle.command_words.specs.Jobs.{SearchLimits}
+use Rattle.wide_fraction.specs.SearchLimits.{SearchLimits}
 use Rattle.input_files.specs.Outcomes.{Input}
 use Rattle.read_back_laws.specs.ReadBack.{graph_back, IsReadBack}
 use Rattle.printed_parts.specs.SharedParts.{at_greatest_bound}
@@ -74,8 +74,8 @@ pub record IsSpreadBack (d : Input) (sets : List (List ℕ)) (text w : List ℕ)
   pub back : IsReadBack d text w
   pub shared : AreSharedBack d sets text
 
--- The bytes are the text of what was found for the sets that the file says, which has this status; printed costs are read
--- back.
+-- The bytes are the text of what was found for the sets that the file says, which has this status; printed costs are
+-- read back.
 pub record ShowsSpread (limits : SearchLimits) (sharing : Sharing) (aim : Status) (bytes : List ℕ) : Type 0 where
   pub sets : List (List ℕ)
   pub said : AreSetsIn sets sharing

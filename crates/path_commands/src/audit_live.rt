@@ -208,7 +208,7 @@ fn live_text(alloc: Global, paths: &[LivePath]) -> Result<Vec<u8>, OutOfMemory>
     Ok(text)
 }
 
-/// The area that a request file is for.
+/// The area that a request file is for. For the prover: a call, so that the caller's goals have this part alone.
 fn area_of(requests: &RequestFile) -> u32
     ensures { result ≡ requests.now.area }
 {

@@ -10,8 +10,7 @@ ghost use Rattle.printed_parts.specs.SharedParts.{costs_part};
 
 use conflict_core::{Conflict, all_requests};
 use cost_base::OutOfMemory;
-use cost_branching::keeps_conditions;
-use design_problem::{CostList, Problem, Row, Tree};
+use design_problem::{CostList, Problem, Row, Tree, keeps_problem_on_graph};
 use evidence_text::{TreePart, push_costs, push_evidence};
 use line_builder::{LineBuilder, head_lines, push_line};
 use printed_parts::{at_greatest_bound, costs_by_name};
@@ -112,7 +111,7 @@ fn core_text(
     ensures { IfOk result (λ text. text.items ≡ conflict_text problem.now
         (Core core.now.members.now core.now.rows.now tree core.now.without.now)) }
 {
-    keeps_conditions(problem);
+    keeps_problem_on_graph(problem);
     let mut text = head_of(alloc, b"verdict core", core.members)?;
     let tree = at_greatest_bound(problem, tree);
     push_evidence(alloc, &mut text, core.rows, TreePart::Proof, &tree)?;
@@ -134,7 +133,7 @@ fn undecided_text(
     ensures { IfOk result (λ text. text.items ≡ conflict_text problem.now
         (ConflictUndecided members.now rows.now tree)) }
 {
-    keeps_conditions(problem);
+    keeps_problem_on_graph(problem);
     let mut text = head_of(alloc, b"verdict undecided", members)?;
     let tree = at_greatest_bound(problem, tree);
     push_evidence(alloc, &mut text, rows, TreePart::Unfinished, &tree)?;

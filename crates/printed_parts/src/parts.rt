@@ -11,8 +11,7 @@ ghost use Rattle.printed_parts.specs.SharedParts.{at_greatest_bound};
 ghost use Rattle.printed_rows.specs.PrintedCosts.{named_costs};
 
 use cost_base::OutOfMemory;
-use cost_branching::keeps_conditions;
-use design_problem::{CapTree, CostList, Costs, Problem, Tree, greatest_of};
+use design_problem::{CapTree, CostList, Costs, Problem, Tree, greatest_of, keeps_problem_on_graph};
 use evidence_text::{TreePart, push_capped_tree};
 use printed_rows::printed_costs;
 use std::alloc::Global;
@@ -31,7 +30,7 @@ pub fn costs_by_name(
     ensures named { IfOk result (λ printed. printed ≡ named_costs problem.now costs.now) }
     ensures short { IfOk result (λ printed. AreShort (costs_lines (Some printed))) }
 {
-    keeps_conditions(problem);
+    keeps_problem_on_graph(problem);
     printed_costs(alloc, problem, costs.as_slice())
 }
 
@@ -53,7 +52,7 @@ fn greatest_bound(problem: &Problem) -> u16
     greatest_of(problem.high.as_slice())
 }
 
-/// The greatest bound of a problem's variables is a cost of an interface.
+/// For the prover alone: keeps that the greatest bound of a problem's variables is a cost of an interface.
 pub fn keeps_greatest_bound(problem: &Problem)
     ensures { greatest_bound problem.now ≤ 65535 }
 {
@@ -74,7 +73,8 @@ pub fn push_tree_at_greatest_bound(
     problem: &Problem,
     tree: &Tree,
 ) -> Result<(), OutOfMemory>
-    requires { AreShort (tree_lines (part_word part) (Some (at_greatest_bound problem.now tree.now))) }
+    requires { AreShort
+        (tree_lines (part_word part) (Some (at_greatest_bound problem.now tree.now))) }
     ensures { OnOk result (text.new.items ≡ text.old.items ++ with_ends
         (tree_lines (part_word part) (Some (at_greatest_bound problem.now tree.now)))) }
 {

@@ -19,7 +19,7 @@ use Rattle.design_problem.specs.Earnest.{OpenPlace, Earnest, EarnestAt, IsEarnes
 use Rattle.design_problem.specs.OpenPlaces.{UndoneLast, undones}
 use Rattle.design_problem.specs.Renumbering.{renumbered, renumbered_member, renumbered_part}
 use Rattle.design_problem.proofs.Renumbering.{renumbered_tree}
-use Rattle.form_search.specs.Finds.{IsShort}
+use Rattle.design_problem.specs.SearchTrees.{IsShort}
 use Rattle.printed_rows.specs.NamedRows.{MemberBelow, NamesBelow}
 use Rattle.printed_rows.specs.NewNumbers.{KeepsRowsByNumber}
 use Rattle.printed_rows.proofs.KeptRows.{keeps_forms}

@@ -15,7 +15,7 @@ use Rattle.design_problem.specs.OpenPlaces.{UndoneLast}
 use Rattle.design_problem.specs.Renumbering.{renumbered}
 use Rattle.design_problem.proofs.OpenPlaces.{earnest_tree_sound}
 use Rattle.design_problem.proofs.TreeShapes.{sound_whole}
-use Rattle.form_search.specs.Finds.{IsSearchTree, IsShort}
+use Rattle.design_problem.specs.SearchTrees.{IsSearchTree, IsShort}
 use Rattle.printed_rows.specs.NamedRows.{IsKnown, NamesBelow, NamesKnown, is_row_named}
 use Rattle.printed_rows.specs.NewNumbers.{AreKept, ArePrinted, IsTreePrinted, kept_rows, named_in, new_number, with_new_numbers}
 use Rattle.printed_rows.specs.PrintedTrees.{IsPrintedOver, IsUndecidedOver}

@@ -28,7 +28,7 @@ use Rattle.design_problem.specs.Earnest.{OpenPlace, Earnest, EarnestAt, IsEarnes
 use Rattle.design_problem.specs.Text.{FitsEntry, IsPrintedRatio, entry_line, integer, member_words, members_words, part_words, ratio_word, side_word, spaced, step_word}
 use Rattle.design_problem.proofs.BoxParts.{IsBoxIn, part_whole, subboxes_in}
 use Rattle.design_problem.proofs.OpenPlaces.{boxes_of, same_boxes}
-use Rattle.form_search.specs.Finds.{IsShort}
+use Rattle.design_problem.specs.SearchTrees.{IsShort}
 use Rattle.printed_rows.specs.FittingTexts.{IsTextLine}
 use Rattle.printed_rows.specs.NamedRows.{MemberBelow, NamesBelow}
 

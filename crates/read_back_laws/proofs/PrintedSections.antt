@@ -261,7 +261,8 @@ sections_printed before behind a costs some words early late front back = λ rou
     regrouped : (h c l b : List (List ℕ)) → (h ++ (c ++ l)) ++ b ≡ h ++ (c ++ (l ++ b))
     regrouped h c l b = simp append_assoc
 
--- So are the sections of a text with these lines of costs between lines that open none, where the lines behind them end a section.
+-- So are the sections of a text with these lines of costs between lines that open none, where the lines behind them end
+-- a section.
 pub sections_between : (before behind : List (List ℕ)) (ls : List CostLine) → All NamesWords ls → all_lack_end before ≡ true →
     all_lack_end behind ≡ true → all_other before ≡ true → all_other behind ≡ true → until_end behind ≡ [] →
     PrintsSections (with_ends (before ++ (cost_lines None ls ++ behind))) ls

@@ -237,8 +237,8 @@ routers_back_are chosen d asked files bytes ls w printed =
     router_back_is d.routers bytes ls k file (section_of chosen d asked files bytes ls w k file printed there)
     ∙ ap (λ m. recosted_router (c m) (config_of file.name file.bytes)) place)
 
--- Costs whose sections are printed are read back, where all other free interfaces stand at them: no configuration with its
--- section has a fault, nor their topology, and the graph is the problem's at the costs.
+-- Costs whose sections are printed are read back, where all other free interfaces stand at them: no configuration with
+-- its section has a fault, nor their topology, and the graph is the problem's at the costs.
 pub read_back_for : (chosen : ℕ → Linked → Bool) (d : Input) (bytes : List ℕ) (ls : List CostLine) (w : List ℕ) → IsReadyInput d →
     PrintsSections bytes ls → ls ≡ map (named_cost w) (names_in chosen d) → StandElse chosen d.asked d.database w →
     All (IsPrintable w) (names_in chosen d) → IsReadBackFor d (names_in chosen d) bytes w

@@ -42,7 +42,8 @@ told_by before = record {
   items = filter_map (λ s. item_in s.line (request_statement_of s.words)) before;
 }
 
--- the fault of a statement behind those that say these things: a second area or default cost, a path too many, or its own
+-- the fault of a statement behind those that say these things: a second area or default cost, a path too many, or its
+-- own
 abbrev pub fault_said : Told → Statement → Option RequestFault
 fault_said told (Area a) = if is_some told.area then Some BadRequestLine else None
 fault_said told (DefaultCost n) = if is_some told.default_cost then Some BadRequestLine else None

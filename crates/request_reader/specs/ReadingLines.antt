@@ -120,7 +120,8 @@ abbrev pub path_said : Option Route → Option (List Part) → Statement
 path_said (Some route) (Some parts) = Ask (Path route parts)
 path_said _ _ = bad_request_line
 
--- `path R:IF R:IF .. R` or `path R:IF R:IF .. R without W ..`; the word `without` is looked for from the line's third word on
+-- `path R:IF R:IF .. R` or `path R:IF R:IF .. R without W ..`; the word `without` is looked for from the line's third
+-- word on
 abbrev pub path_line : List (List ℕ) → Statement
 path_line [] = bad_request_line
 path_line (word ∷ words) = path_said (route_of (word ∷ to_without words)) (excluded_parts (behind_without words))

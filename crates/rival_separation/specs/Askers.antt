@@ -48,7 +48,8 @@ pub record AreCheapestRivals (g : Area) (p : Point) (requests : List Request) (r
 abbrev pub request_seen : Survey → Asking → ℕ → Request
 request_seen s asker place = request_at s.requests.now (slice_index asker.order place)
 
--- the room has the distances to the end of a request without its excluded edges, up to what its path costs and the scale
+-- the room has the distances to the end of a request without its excluded edges, up to what its path costs and the
+-- scale
 abbrev pub CanCompareWith : Area → Point → Request → Findings → Type 0
 CanCompareWith g p r room = HasDistancesTo g p (request_ends r) (lead_at g p r) room
 

@@ -14,7 +14,8 @@ pub record IsOnward (g : Area) (p : Point) (excluded : List ℕ) (room : Finding
   pub distance : distance_at room (edge_at g e).to ≡ Some rest
   pub sums : total ≡ price_at p (edge_at g e).price + rest
 
--- at the vertex of its place the path may be left by another edge, and with the cheapest way on from there it costs so much
+-- at the vertex of its place the path may be left by another edge, and with the cheapest way on from there it costs so
+-- much
 pub record DeviatesFromPath (g : Area) (p : Point) (excluded : List ℕ) (room : Findings) (path : List ℕ) (place e total : ℕ) : Type 0 where
   pub rest : ℕ
   pub within : place < length path

@@ -26,7 +26,8 @@ lead_in o = lead_at o.graph.now o.point.now o.request.now
 abbrev pub HasDistances : Outlook → Findings → Type 0
 HasDistances o room = (limit : ℕ) × HasDistancesBelow o.graph.now o.point.now (request_ends o.request.now) limit room
 
--- the room has the distances to the end of the request without its excluded edges, up to what its path costs and the scale
+-- the room has the distances to the end of the request without its excluded edges, up to what its path costs and the
+-- scale
 abbrev pub CanCompare : Outlook → Findings → Type 0
 CanCompare o room = CanCompareWith o.graph.now o.point.now o.request.now room
 

@@ -22,7 +22,8 @@ pub record HasDistancesBelow (g : Area) (p : Point) (ends : Ends) (limit : ℕ) 
   pub tight : (v : ℕ) (path : List ℕ) → IsPathOf g (record { start = v; end = ends.end; excluded = ends.excluded }) path →
       cost g p path < limit → (distance_at room v ≡ Some (cost g p path)) ↔ AreTight g p room path
 
--- the room has the distances to the end of a request without its excluded edges, those below a limit of at least so much
+-- the room has the distances to the end of a request without its excluded edges, those below a limit of at least so
+-- much
 pub record HasDistancesTo (g : Area) (p : Point) (ends : Ends) (enough : ℕ) (room : Findings) : Type 0 where
   pub limit : ℕ
   pub above : enough ≤ limit
@@ -50,7 +51,8 @@ pub record IsFollowedByLeast (g : Area) (p : Point) (ends : Ends) (room : Findin
   pub costs : distance_at room v ≡ Some (cost g p rest)
   pub same : walk ≡ room.path ++ rest
 
--- some path leads from the vertex to the end, and with any of least cost the room's path is shorter than the graph has vertices
+-- some path leads from the vertex to the end, and with any of least cost the room's path is shorter than the graph has
+-- vertices
 pub record HasWay (g : Area) (p : Point) (ends : Ends) (room : Findings) (v : ℕ) : Type 0 where
   pub known : v < length g.vertices
   pub least : ℕ

@@ -25,7 +25,8 @@ pub record IsTiedTree (g : Area) (p : Point) (ends : Ends) (most : ℕ) (wanted 
   pub tree : IsPrefixTree g ends wanted steps
   pub tied : All (λ w. cost g p w ≡ most) wanted
 
--- at its vertex the place may be left by an edge that leads to no place, and with the cheapest way on from there it costs so much
+-- at its vertex the place may be left by an edge that leads to no place, and with the cheapest way on from there it
+-- costs so much
 pub record DeviatesFromTree (g : Area) (p : Point) (ends : Ends) (room : Findings) (steps : List Step) (costs : List ℕ) (place e total : ℕ) : Type 0 where
   pub rest : ℕ
   pub within : place ≤ length steps

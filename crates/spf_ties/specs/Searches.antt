@@ -80,8 +80,8 @@ pub record GrowsByOne (old new : Waiting) : Type 0 where
   pub places : old.places ≤ new.places
   pub one : length new.entries ≤ length old.entries + 1
 
--- what a step of a search leaves of what waits: no place less, and no more entries together with the edges that may still
--- make one
+-- what a step of a search leaves of what waits: no place less, and no more entries together with the edges that may
+-- still make one
 pub record NeedsNoMore (s : Subgraph) (old new : Front) : Type 0 where
   pub places : old.waiting.places ≤ new.waiting.places
   pub fewer : length new.waiting.entries + open_edges s.graph.now new.settled.items ≤

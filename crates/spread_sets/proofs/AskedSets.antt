@@ -7,11 +7,10 @@ use Rattle.std.proofs.lemmas.List.Elements.{All-contains, All-from_get_or, All-p
 use Rattle.std.proofs.lemmas.List.Quantifiers.{all_pairs_push}
 use Rattle.area_graph.specs.declared.Point.{Point}
 use Rattle.design_problem.specs.Forms.{Form, AreMet}
-use Rattle.design_problem.specs.Problems.{DesignProblem}
+use Rattle.design_problem.specs.Problems.{DesignProblem, IsProblemOnGraph}
 use Rattle.form_search.specs.Sources.{IsSourceAnswer, SameSource}
 use Rattle.form_search.specs.declared.source.Asked.{Asked}
 use Rattle.form_search.specs.declared.source.Asked.TheVariants.{Nothing, Added}
-use Rattle.cost_branching.specs.Rivals.{IsProblemOnGraph}
 use Rattle.form_search.proofs.SourceLaws.{grows_none}
 use Rattle.cost_branching.proofs.NewForms.{between_negative, grows_more, new_rival}
 use Rattle.spread_sets.specs.declared.spread.SetRow.{SetRow}

@@ -5,13 +5,12 @@ use Rattle.cost_base.specs.declared.OutOfMemory.{OutOfMemory}
 use Rattle.std.proofs.lemmas.List.Elements.{All-map}
 use Rattle.design_problem.specs.declared.form.CostBox.{CostBox}
 use Rattle.design_problem.specs.Forms.{Form}
-use Rattle.design_problem.specs.Problems.{DesignProblem, IsProblem}
+use Rattle.design_problem.specs.Problems.{DesignProblem, IsProblem, IsProblemOnGraph}
 use Rattle.design_problem.specs.Rows.{box_of}
 use Rattle.design_problem.specs.Boxes.{capped}
 use Rattle.design_problem.specs.Answers.{greatest_bound, whole_box}
 use Rattle.form_search.specs.Finds.{IsSearchResult}
 use Rattle.form_search.specs.declared.found.Found.{Found}
-use Rattle.cost_branching.specs.Rivals.{IsProblemOnGraph}
 use Rattle.printed_rows.proofs.CapBoxes.{low_below_greatest_bound, no_low_above}
 use Rattle.set_reader.specs.SpreadSets.{AreSetsOf}
 use Rattle.spread_sets.specs.declared.finding.Sought.{Sought}

@@ -10,7 +10,7 @@ use Rattle.design_problem.specs.declared.problem.Request.{Request}
 use Rattle.design_problem.specs.declared.form.Row.{Row}
 use Rattle.design_problem.specs.declared.tree.Entry.{Entry}
 use Rattle.design_problem.specs.declared.tree.Entry.TheVariants.{Undone}
-use Rattle.design_problem.specs.Problems.{DesignProblem, IsProblem, request_ends, request_at}
+use Rattle.design_problem.specs.Problems.{DesignProblem, IsProblem, request_ends, request_at, IsProblemOnGraph}
 use Rattle.design_problem.specs.Boxes.{IsInBox}
 use Rattle.design_problem.specs.Rows.{IsRivalOf, IsRouteOf, IsRow, box_of}
 use Rattle.design_problem.specs.Trees.{IsClosed, IsSoundTree, entry_count}
@@ -18,8 +18,7 @@ use Rattle.design_problem.specs.Answers.{greatest_bound, whole_box}
 use Rattle.design_problem.proofs.ProblemTrees.{le_greatest}
 use Rattle.design_problem.proofs.TreeLaws.{closed_tree_none}
 use Rattle.design_problem.proofs.TreeShapes.{few_entries}
-use Rattle.form_search.specs.Finds.{IsSearchTree}
-use Rattle.cost_branching.specs.Rivals.{IsProblemOnGraph}
+use Rattle.design_problem.specs.SearchTrees.{IsSearchTree}
 use Rattle.printed_rows.specs.NamedRows.{NamesBelow, is_row_named}
 use Rattle.printed_rows.specs.NewNumbers.{IsTreePrinted}
 use Rattle.printed_rows.proofs.AnswerLines.{fit_text}

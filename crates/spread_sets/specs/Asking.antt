@@ -6,7 +6,7 @@ use Rattle.design_problem.specs.Forms.{Form, value_at}
 use Rattle.form_search.specs.Sources.{Grows, HasNewRival, IsSourceAnswer}
 use Rattle.form_search.specs.declared.source.Asked.{Asked}
 use Rattle.form_search.specs.declared.source.Asked.TheVariants.{Nothing, Added}
-use Rattle.cost_branching.specs.Rivals.{IsProblemOnGraph}
+use Rattle.design_problem.specs.Problems.{IsProblemOnGraph}
 use Rattle.spread_sets.specs.declared.source.MemberPair.{MemberPair}
 use Rattle.spread_sets.specs.declared.spread.SetRow.{SetRow}
 use Rattle.spread_sets.specs.declared.spread.SetRow.TheVariants.{Outsider}
@@ -50,8 +50,8 @@ abbrev pub IsPassed : KnownSets → Point → ℕ → SetRow → Type 0
 IsPassed s point count row =
     ((k : ℕ) × (k < count) × (name_of row ≡ name_of_set (set_at s.sets k))) ⊎ (pos 0 ≤ℤ value_at (form_of_set_row s.problem row) point)
 
--- The first sets were asked: rows and forms are in step, and true forms came. Each row is of one of these sets, or its form
--- is at least 0 at the point.
+-- The first sets were asked: rows and forms are in step, and true forms came. Each row is of one of these sets, or its
+-- form is at least 0 at the point.
 pub record AreSetsAsked (point : Point) (count : ℕ) (old : KnownSets) (old_forms : List Form) (new : KnownSets)
     (new_forms : List Form) (asked : Asked) : Type 0 where
   pub problem : new.problem ≡ old.problem

@@ -18,13 +18,15 @@ no_member_set = record { members = []; tree = [] }
 abbrev pub member_set_at : List MemberSet → ℕ → MemberSet
 member_set_at sets k = slice_index_or sets k no_member_set
 
--- what an asker shows: its room, for how many places of a tree it has room, and the sets' numbers in the order in which they are looked at
+-- what an asker shows: its room, for how many places of a tree it has room, and the sets' numbers in the order in which
+-- they are looked at
 pub record SetAsking : Type 0 where
   pub room : Findings
   pub places : ℕ
   pub order : List ℕ
 
--- an asker for a problem's sets: it has room for the graph and for each tree, and the number of each set stands in its order
+-- an asker for a problem's sets: it has room for the graph and for each tree, and the number of each set stands in its
+-- order
 pub record IsAskerOfSets (p : DesignProblem) (sets : List MemberSet) (asker : SetAsking) : Type 0 where
   pub room : IsRoomFor p.graph asker.room
   pub trees : All (HasTreeWithin p asker.places) sets

@@ -11,13 +11,12 @@ use Rattle.area_graph.specs.Costs.{at_costs, cost}
 use Rattle.design_problem.specs.declared.problem.Request.{Request}
 use Rattle.design_problem.specs.Forms.{Form}
 use Rattle.design_problem.specs.Forms.{dot, value_for_costs, value_at}
-use Rattle.design_problem.specs.Problems.{DesignProblem, IsProblem, request_ends, no_request, request_at}
+use Rattle.design_problem.specs.Problems.{DesignProblem, IsProblem, request_ends, no_request, request_at, IsProblemOnGraph}
 use Rattle.design_problem.specs.Rows.{fixed_cost, form_between}
 use Rattle.design_problem.proofs.AtCosts.{value_at_costs}
 use Rattle.design_problem.proofs.FormBounds.{simple_form_small}
 use Rattle.form_search.specs.Sources.{IsTrueForm, scaled}
 use Rattle.cost_branching.specs.Candidates.{edge_lists}
-use Rattle.cost_branching.specs.Rivals.{IsProblemOnGraph}
 use Rattle.cost_branching.specs.SourceLaws.{at_least, contains-map, multiple_divided, path_listed, scaled_cost, small_value, value_between}
 use Rattle.set_separation.specs.Outsiders.{IsOutsider}
 use Rattle.spread_sets.specs.declared.spread.SetRow.{SetRow}

@@ -1,16 +1,16 @@
--- The source of a search for spread-fit costs: the sets of a problem, the rows that are known, and the forms that are true.
+-- The source of a search for spread-fit costs: the sets of a problem, the rows that are known, and the forms that are
+-- true.
 use Rattle.std.specs.Prelude.{◌≡◌, ℕ, ◌+◌, ◌<◌, List, [], ◌∷◌, ◌++◌, map, length, drop, slice_index_or, All, AllPairs}
 use Rattle.area_graph.specs.declared.Point.{Point}
 use Rattle.area_graph.specs.Costs.{cost}
 use Rattle.design_problem.specs.declared.form.CostBox.{CostBox}
 use Rattle.design_problem.specs.Forms.{Form}
 use Rattle.design_problem.specs.declared.problem.Request.{Request}
-use Rattle.design_problem.specs.Problems.{DesignProblem}
+use Rattle.design_problem.specs.Problems.{DesignProblem, IsProblemOnGraph}
 use Rattle.design_problem.specs.Rows.{form_between}
 use Rattle.form_search.specs.Finds.{IsSearchResult}
 use Rattle.form_search.specs.declared.found.Found.{Found}
 use Rattle.cost_branching.specs.Candidates.{edge_lists}
-use Rattle.cost_branching.specs.Rivals.{IsProblemOnGraph}
 use Rattle.set_separation.specs.Outsiders.{CostAtLeast, IsOutsider}
 use Rattle.spread_sets.specs.declared.spread.SetRow.{SetRow}
 use Rattle.spread_sets.specs.declared.spread.SetRow.TheVariants.{Same}
@@ -92,8 +92,8 @@ pub record IsFoundInStep (p : DesignProblem) (sets : List (List ℕ)) (top nodes
   pub lists : IsPoolOfSets source forms
   pub result : IsSearchResult (SharesEach p sets) top nodes forms box found
 
--- The rows of the set at a place were put up to those of its members before a number: with the rows of the members from that
--- one on they are all the rows of the set.
+-- The rows of the set at a place were put up to those of its members before a number: with the rows of the members from
+-- that one on they are all the rows of the set.
 pub record AreTiesPut (place number : ℕ) (old : KnownSets) (old_forms : List Form) (new : KnownSets) (new_forms : List Form) : Type 0 where
   pub before : ℕ
   pub next : number ≡ before + 1

@@ -13,8 +13,7 @@ ghost use Rattle.spread_sets.specs.Spreads.{AreTied, SharesEach, edges_of};
 use crate::member_sets::{MemberSet, first_of, most_places, request_of};
 use area_graph::{Point, path_cost};
 use cost_base::{Listed, OutOfMemory};
-use cost_branching::keeps_conditions;
-use design_problem::{Problem, Request};
+use design_problem::{Problem, Request, keeps_problem_on_graph};
 use rival_separation::{
     Outlook, Shared, least_lead, look, nothing_told, serves, share, sorted_numbers, target_of, tell,
 };
@@ -87,7 +86,7 @@ fn cost_of(problem: &Problem, path: u32, point: &Point) -> u128
     requires path { path < length problem.now.paths }
     ensures { result ≡ cost problem.now.graph point.now (edges_of problem.now path) }
 {
-    keeps_conditions(problem);
+    keeps_problem_on_graph(problem);
     path_cost(&problem.graph, &request_of(problem, path).path, point)
 }
 
@@ -169,7 +168,7 @@ impl SetAsker {
         ensures path { HasItsPath result }
     {
         let problem = survey.problem;
-        keeps_conditions(problem);
+        keeps_problem_on_graph(problem);
         Outlook {
             graph: &problem.graph,
             request: request_in(problem, self.set_at(survey.sets, place)),
@@ -257,7 +256,7 @@ impl SetAsker {
             (AreOutsidersDear survey.now.problem.now survey.now.point.now
             (members_seen survey.now self.old place) → ⊥) }
     {
-        keeps_conditions(survey.problem);
+        keeps_problem_on_graph(survey.problem);
         let outlook = self.outlook_at(survey, place);
         let set = self.set_at(survey.sets, place);
         paths_lead(&outlook, &set.tree, self.costs.as_mut_slice(), &self.room)
@@ -291,7 +290,7 @@ impl SetAsker {
         ensures outsider { IfOk result (IsOutsiderIfAny survey.now.problem.now survey.now.point.now
             (members_seen survey.now self.old place)) }
     {
-        keeps_conditions(survey.problem);
+        keeps_problem_on_graph(survey.problem);
         let outlook = self.outlook_at(survey, place);
         let set = self.set_at(survey.sets, place);
         let costs = self.costs.as_mut_slice();

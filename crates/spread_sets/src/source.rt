@@ -5,7 +5,7 @@ ghost use Rattle.design_problem.specs.Forms.{AreMet};
 ghost use Rattle.form_search.specs.Sources.{Grows, IsCostPoint};
 ghost use Rattle.spread_sets.specs.declared.spread.SetRow.TheVariants.{Same};
 ghost use Rattle.spread_sets.specs.Spreads.{AreTied, SharesEach, name_of_set, form_of_set_row, forms_of_set_rows};
-ghost use Rattle.cost_branching.specs.Rivals.{IsProblemOnGraph};
+ghost use Rattle.design_problem.specs.Problems.{IsProblemOnGraph};
 ghost use Rattle.spread_sets.specs.MemberSets.{AreMemberSets, HasTree, sets_in};
 ghost use Rattle.spread_sets.specs.Sources.{IsOutsiderTooCheap, IsPoolOfSets, IsTrueOfSets, both_ways, set_at, tie_rows, ties_in};
 ghost use Rattle.spread_sets.specs.Asking.{AreAllSetsAsked, IsPairIn, IsSetAsked, OneSetRow};
@@ -17,8 +17,8 @@ use crate::set_asker::SetAsker;
 use crate::spread::SetRow;
 use area_graph::Point;
 use cost_base::{Listed, OutOfMemory};
-use cost_branching::{keeps_conditions, row_of, variable_count};
-use design_problem::{Form, Problem, form_of};
+use cost_branching::{row_of, variable_count};
+use design_problem::{Form, Problem, form_of, keeps_problem_on_graph};
 use form_search::{Asked, FormPool, RowSource};
 use std::alloc::Global;
 use std::marker::{Brand, Model, PhantomData};
@@ -133,7 +133,7 @@ impl<'a, B: Begun> Spreads<'a, B> {
         ensures kept { IsProblemOnGraph self.now.problem }
         ensures sets { AreMemberSets self.now.problem self.now.sets }
     {
-        keeps_conditions(self.problem);
+        keeps_problem_on_graph(self.problem);
     }
 
     /// How many sets there are.

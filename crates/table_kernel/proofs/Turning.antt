@@ -109,8 +109,8 @@ turn_even y u =
     ∙ ring (m ∷ q ∷ pos g ∷ []) (var 0 ⊗ (var 1 ⊗ var 2)) (var 1 ⊗ (var 0 ⊗ var 2)) refl
     ∙ ap (λ z. q *ℤ z) (over-mul u g (div-mul_cancel g divides.1))
 
--- A line's number x over d, and y at the pivot's column; the entering line's t and u over f; s and r are how often d and
--- the new line's e go into D and L. The number after the turn over L is that of the turned row over D and A.
+-- A line's number x over d, and y at the pivot's column; the entering line's t and u over f; s and r are how often d
+-- and the new line's e go into D and L. The number after the turn over L is that of the turned row over D and A.
 number_crossed : (d m f s r e x y t u T A q new : ℤ) → pos 0 <ℤ d → pos 0 <ℤ m → pos 0 <ℤ f →
     (t *ℤ (s *ℤ d)) ≡ (T *ℤ f) → (u *ℤ (s *ℤ d)) ≡ (A *ℤ f) → (m *ℤ y) ≡ (q *ℤ u) →
     (new *ℤ (d *ℤ m)) ≡ (((m *ℤ x) -ℤ (q *ℤ t)) *ℤ e) →
@@ -315,7 +315,8 @@ column_up g place (row ∷ rows) =
 head_same : (x y : ℤ) (xs ys : List ℤ) → (x ∷ xs) ≡ (y ∷ ys) → (x ≡ y) × (xs ≡ ys)
 head_same x y xs ys same = (cc, cc)
 
--- The constants rise where those over D and a, times L, are the turned ones, by a negative number b of the entering form.
+-- The constants rise where those over D and a, times L, are the turned ones, by a negative number b of the entering
+-- form.
 pub rise_from : (D L a u : ℕ) (b : ℤ) (news olds ys : List ℤ) → 0 < D → 0 < L → 0 < a → 0 < u → (b +ℤ pos u) ≡ pos 0 →
     map (λ z. z *ℤ pos (D * a)) news ≡ map (λ z. z *ℤ pos L) (turned_column a olds b ys) → length olds ≡ length ys →
     length news ≡ length olds → LeadsPositive ys → LeadsPositive (rise D L (map (λ z. z *ℤ pos D) news) olds)

@@ -33,7 +33,8 @@ block_files i = file_name (upper_router i) ∷ file_name (lower_router i) ∷ fi
 abbrev pub file_names : ℕ → List (List ℕ)
 file_names blocks = file_name (joint 0) ∷ over_blocks block_files blocks
 
--- link k of all blocks has the subnet 10.0.0.0 plus 2k of length 31: its first router has the even address, its second the odd one
+-- link k of all blocks has the subnet 10.0.0.0 plus 2k of length 31: its first router has the even address, its second
+-- the odd one
 abbrev pub first_end : ℕ → ℕ
 first_end k = 167772160 + 2 * k
 

@@ -81,7 +81,8 @@ same_lengths : (u : ℕ) (rows : List (List ℤ)) (us : List ℕ) →
 same_lengths u [] us = refl
 same_lengths u (ts ∷ rows) us = ap suc (same_lengths u rows us)
 
--- Columns that lead with a positive number, each times a whole number, add up to a column that doesn't lead with a negative one.
+-- Columns that lead with a positive number, each times a whole number, add up to a column that doesn't lead with a
+-- negative one.
 pub columns_follow : (rows : List (List ℤ)) (us : List ℕ) →
     ((k : ℕ) → k < length us → LeadsPositive (map (λ ts. number_at ts k) rows)) →
     LeadsNoNegative (map (λ ts. row_sum ts us) rows)

@@ -1,6 +1,6 @@
 -- What is found of the changes of these costs, and its report.
 use Rattle.std.proofs.lemmas.Result.{IfOk-weaker}
-use Rattle.command_words.specs.Jobs.{limits_seen}
+use Rattle.wide_fraction.specs.SearchLimits.{limits_seen}
 use Rattle.std.proofs.Common.{subst, List, ℕ, Option}
 use Rattle.report_writer.specs.Reports.{Reports}
 use Rattle.least_change.specs.Changes.{IsChangeFound}

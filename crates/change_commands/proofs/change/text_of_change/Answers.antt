@@ -20,7 +20,7 @@ asks : (c : After-keeps_greatest_bound) → IsAskable (question c)
 asks c =
     let network = c.args.network.now in
     askable network.requests network.lsdb network.problem c.args.present.now c.requires.found.0 c.requires.found.1 c.requires.built c.requires.present
-    c.keeps_conditions.ensures.problem c.keeps_conditions.ensures.graph c.keeps_greatest_bound.ensures c.requires.found.2
+    c.keeps_problem_on_graph.ensures.problem c.keeps_problem_on_graph.ensures.graph c.keeps_greatest_bound.ensures c.requires.found.2
 
 told : (c : After-keeps_greatest_bound) (change : Change) → c.args.change.now ≡ change → IsChangeFound (question c) change
 told c change is = subst (λ (found : Change). IsChangeFound (question c) found) is c.requires.found.3

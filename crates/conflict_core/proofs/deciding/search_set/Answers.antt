@@ -18,7 +18,7 @@ decide-requires-clause-cap g c =
     let cap_is : c.greatest_of-cap.result ≡ greatest_bound q = c.greatest_of-cap.ensures
     ∙ ap greatest_cost (c.as_slice.ensures ∙ ap (λ (r : DesignProblem). r.high) c.part.view_is) in
     cap_above c.args.problem.now q c.args.members.now c.args.members.now c.greatest_of-cap.result
-    c.keeps_conditions.ensures.problem c.requires.set refl c.in_ok-part.ensures cap_is
+    c.keeps_problem_on_graph.ensures.problem c.requires.set refl c.in_ok-part.ensures cap_is
 
 pub decide-requires-clause-pool : goal.decide-requires-clause-pool
 decide-requires-clause-pool g c = subst (λ (q : DesignProblem). IsRowPool q c.args.pool.now) (sym c.in_ok-part.ensures) c.requires.pool

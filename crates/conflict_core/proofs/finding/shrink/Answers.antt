@@ -24,7 +24,7 @@ loop-shrunk-init g c =
     let told = c.in_ok-members.field-0 in
     let begun : Shrunk = record { members = told.members; rows = told.rows; without = c.new.result } in
     record {
-      shrunk = not_tried p limits.top limits.nodes c.args.conflict told begun c.keeps_conditions.ensures.problem c.requires.conflict c.requires.all
+      shrunk = not_tried p limits.top limits.nodes c.args.conflict told begun c.keeps_problem_on_graph.ensures.problem c.requires.conflict c.requires.all
           (c.in_ok-members.ensures limits.top limits.nodes c.requires.conflict.tree) refl refl c.new.ensures.items;
       asked = ([], (λ more end order. order), refl);
     }

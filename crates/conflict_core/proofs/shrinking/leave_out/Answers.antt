@@ -50,7 +50,7 @@ returns-in_ok-told-in-Refuted-clause-turned g c =
     let nodes = c.args.limits.now.nodes in
     let found : IsSetDecided p top nodes c.in_ok-others.others.items (Refuted c.in-Refuted.conflict) =
     subst (λ (d : Decided). IsSetDecided p top nodes c.in_ok-others.others.items d) c.in-Refuted.is c.in_ok-costs.ensures.decided in
-    refuted_less p top nodes c.in-Refuted.conflict c.in_ok-told-in-Refuted.told c.args.shrunk c.with_told.result c.keeps_conditions.ensures.problem
+    refuted_less p top nodes c.in-Refuted.conflict c.in_ok-told-in-Refuted.told c.args.shrunk c.with_told.result c.keeps_problem_on_graph.ensures.problem
     c.requires.shrunk c.requires.left found.1 (found.0 ∙ c.in_ok-others.ensures) (c.in_ok-told-in-Refuted.ensures top nodes found.1.tree)
     (ap (λ (s : Shrunk). s.members) c.with_told.ensures)
     (ap (λ (s : Shrunk). s.rows) c.with_told.ensures)

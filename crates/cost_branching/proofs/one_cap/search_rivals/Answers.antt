@@ -23,7 +23,7 @@ search-found-requires-clause-in_step g c =
       lists = search rules;
       true_forms =
           subst (λ (s : KnownRows). All (IsTrueRowForm s.problem) pool.forms) (sym c.new-source.ensures)
-          (pool_true c.args.problem.now pool c.keeps_conditions.ensures is_pool);
+          (pool_true c.args.problem.now pool c.keeps_problem_on_graph.ensures is_pool);
     }
 
 pub returns-clause-pool : goal.returns-clause-pool

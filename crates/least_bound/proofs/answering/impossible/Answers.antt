@@ -32,8 +32,8 @@ invariant_of-result c =
     let printed = c.in_ok-printed.printed in
     let refuted = c.requires.refuted.3 in
     let are = refuted_sheet p c.requires.refuted.0 c.requires.refuted.1 c.args.pool c.into_rows.result.items t
-    printed.rows printed.proof printed.unfinished c.keeps_conditions.ensures.problem
-    c.keeps_conditions.ensures.graph c.requires.pool c.into_rows.ensures refuted c.in_ok-printed.ensures in
+    printed.rows printed.proof printed.unfinished c.keeps_problem_on_graph.ensures.problem
+    c.keeps_problem_on_graph.ensures.graph c.requires.pool c.into_rows.ensures refuted c.in_ok-printed.ensures in
     impossible_kept p c.requires.refuted.0 c.requires.refuted.1 c.args.pool (sheet_of (Some t) None printed.rows) t
     printed.proof printed.unfinished are.sheet are.proof_is are.unfinished_is c.requires.cap
     (omega arith) c.requires.refuted.2 refuted
@@ -44,7 +44,7 @@ returns-clause-answered c = λ top nodes refuted.
     let t : CapTree = record { cap = c.args.cap; tree = c.args.tree } in
     let printed = c.in_ok-printed.printed in
     let are = refuted_sheet p top nodes c.args.pool c.into_rows.result.items t printed.rows printed.proof
-    printed.unfinished c.keeps_conditions.ensures.problem c.keeps_conditions.ensures.graph c.requires.pool
+    printed.unfinished c.keeps_problem_on_graph.ensures.problem c.keeps_problem_on_graph.ensures.graph c.requires.pool
     c.into_rows.ensures refuted c.in_ok-printed.ensures in
     impossible_answered p top nodes c.args.pool (sheet_of (Some t) None printed.rows) t printed.proof printed.unfinished
     are.sheet are.proof_is are.unfinished_is c.requires.cap refuted are.whole

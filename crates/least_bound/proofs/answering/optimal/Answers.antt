@@ -45,8 +45,8 @@ invariant_of-result c =
     let printed = c.in_ok-printed.printed in
     let lent : option_copied c.as_ref.result ≡ kept = search rules in
     let are = at_least p c.requires.kept.0 c.requires.kept.1 pool c.into_rows.result.items w kept
-    (option_copied c.as_ref.result) printed.rows printed.proof printed.unfinished c.keeps_conditions.ensures.problem
-    c.keeps_conditions.ensures.graph c.requires.pool c.into_rows.ensures lent c.requires.kept.3
+    (option_copied c.as_ref.result) printed.rows printed.proof printed.unfinished c.keeps_problem_on_graph.ensures.problem
+    c.keeps_problem_on_graph.ensures.graph c.requires.pool c.into_rows.ensures lent c.requires.kept.3
     c.in_ok-printed.ensures in
     optimal_kept p c.requires.kept.0 c.requires.kept.1 pool (sheet_of kept None printed.rows) w c.in_ok-costs.costs
     c.floor_without-floor.result kept printed.proof printed.unfinished are.sheet are.proof_is are.unfinished_is
@@ -61,7 +61,7 @@ returns-clause-answered c = λ top nodes holds.
     let printed = c.in_ok-printed.printed in
     let lent : option_copied c.as_ref.result ≡ kept = search rules in
     let are = at_least p top nodes pool c.into_rows.result.items w kept (option_copied c.as_ref.result) printed.rows
-    printed.proof printed.unfinished c.keeps_conditions.ensures.problem c.keeps_conditions.ensures.graph
+    printed.proof printed.unfinished c.keeps_problem_on_graph.ensures.problem c.keeps_problem_on_graph.ensures.graph
     c.requires.pool c.into_rows.ensures lent holds c.in_ok-printed.ensures in
     optimal_answered p top nodes pool (sheet_of kept None printed.rows) w c.in_ok-costs.costs
     c.floor_without-floor.result kept printed.proof printed.unfinished are.sheet are.proof_is are.unfinished_is

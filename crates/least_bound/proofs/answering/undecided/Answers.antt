@@ -49,7 +49,7 @@ invariant_of-result c =
     let lent : option_copied c.as_ref.result ≡ kept = search rules in
     let small : t.cap ≤ 65535 = omega (arith, c.cap_of-cap.ensures) in
     let are = used_up_sheet p top nodes pool c.into_rows.result.items kept (option_copied c.as_ref.result) t printed.rows
-    printed.proof printed.unfinished c.keeps_conditions.ensures.problem c.keeps_conditions.ensures.graph
+    printed.proof printed.unfinished c.keeps_problem_on_graph.ensures.problem c.keeps_problem_on_graph.ensures.graph
     c.requires.pool c.into_rows.ensures lent c.requires.trees.3 c.requires.trees.4 c.in_ok-printed.ensures in
     let holds =
     undecided_kept p top nodes pool (sheet_of kept (Some t) printed.rows) (option_copied c.args.costs)
@@ -67,7 +67,7 @@ returns-clause-answered c = λ top nodes below used_up.
     let printed = c.in_ok-printed.printed in
     let lent : option_copied c.as_ref.result ≡ kept = search rules in
     let are = used_up_sheet p top nodes pool c.into_rows.result.items kept (option_copied c.as_ref.result) t printed.rows
-    printed.proof printed.unfinished c.keeps_conditions.ensures.problem c.keeps_conditions.ensures.graph
+    printed.proof printed.unfinished c.keeps_problem_on_graph.ensures.problem c.keeps_problem_on_graph.ensures.graph
     c.requires.pool c.into_rows.ensures lent below used_up c.in_ok-printed.ensures in
     let holds =
     undecided_answered p top nodes pool (sheet_of kept (Some t) printed.rows) (option_copied c.args.costs)

@@ -21,7 +21,7 @@ decide-requires-clause-cap g c =
     let p = c.args.problem.now in
     let cap_is : c.greatest_of-cap.result ≡ greatest_bound p = c.greatest_of-cap.ensures
     ∙ ap greatest_cost (c.as_slice.ensures ∙ ap (λ (q : DesignProblem). q.high) c.problem.view_is) in
-    let above : greatest_cost p.low ≤ c.greatest_of-cap.result = omega (arith, cap_is, low_below_greatest_bound p c.keeps_conditions.ensures.problem) in
+    let above : greatest_cost p.low ≤ c.greatest_of-cap.result = omega (arith, cap_is, low_below_greatest_bound p c.keeps_problem_on_graph.ensures.problem) in
     no_low_above p.low c.greatest_of-cap.result above
 
 pub impossible-requires-clause-refuted : goal.impossible-requires-clause-refuted
@@ -55,7 +55,7 @@ start-progress-requires-in-Undecided g c =
     let p = c.args.problem.now in
     let cap_is : c.greatest_of-cap.result ≡ greatest_bound p = c.greatest_of-cap.ensures
     ∙ ap greatest_cost (c.as_slice.ensures ∙ ap (λ (q : DesignProblem). q.high) c.problem.view_is) in
-    subst (λ (k : ℕ). greatest_cost p.low ≤ k) (sym cap_is) (low_below_greatest_bound p c.keeps_conditions.ensures.problem)
+    subst (λ (k : ℕ). greatest_cost p.low ≤ k) (sym cap_is) (low_below_greatest_bound p c.keeps_problem_on_graph.ensures.problem)
 
 pub narrowed-requires-in-Undecided-clause-progress : goal.narrowed-requires-in-Undecided-clause-progress
 narrowed-requires-in-Undecided-clause-progress g c =

@@ -66,7 +66,7 @@ loop-cap-preserved g c =
       pool = c.decide.ensures.pool;
       progress =
           c.after-progress.ensures.holds p c.args.limits.now.top c.args.limits.now.nodes c.loop-cap.pool
-          c.decide.new.pool c.keeps_conditions.ensures.problem c.decide.ensures.pool c.decide.ensures.more
+          c.decide.new.pool c.keeps_problem_on_graph.ensures.problem c.decide.ensures.pool c.decide.ensures.more
           was.progress
           decided.decided;
       decisions = was.decisions ++ d ∷ [];

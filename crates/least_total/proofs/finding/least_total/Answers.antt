@@ -1,4 +1,5 @@
--- The rounds begin with the answer's costs, and end with costs of the least total, or with a tree that used the budget up.
+-- The rounds begin with the answer's costs, and end with costs of the least total, or with a tree that used the budget
+-- up.
 use Rattle.std.proofs.Common.{rules, ◌≤◌, ℕ, sym, ◌∙◌, ap, subst, arith}
 use Rattle.std.specs.Prelude.{All, Option}
 use Rattle.design_problem.specs.Rows.{greatest_cost}
@@ -30,7 +31,7 @@ begun_at : (c : In_ok-standing) → Begins c.args.problem.now c.args.limits.now.
 begun_at c =
     let small : c.greatest_of-cap.result ≤ 65535 = search rules in
     begins c.args.problem.now c.in_ok-costs.costs c.as_slice.result.now c.args.limits.now.nodes c.greatest_of-cap.result
-    c.args.answer c.keeps_conditions.ensures c.in_ok-costs.ensures.best c.in_ok-costs.ensures.verdict
+    c.args.answer c.keeps_problem_on_graph.ensures c.in_ok-costs.ensures.best c.in_ok-costs.ensures.verdict
     c.as_slice.ensures c.greatest_of-cap.ensures small c.args.limits.now.budget_end
 
 pub returns-in_ok-proof_of-in-None : goal.returns-in_ok-proof_of-in-None
@@ -44,7 +45,7 @@ returns-in_ok-proof_of-in-None c =
     subst (λ (a : AnswerParts). IsTotalAnswer p limits.top limits.nodes c.args.answer
     (Least a c.from-total.result c.in_ok-proof_of-in-None.field-0)) (sym c.answer-in-None.view_is)
     (least_answered p limits.top limits.nodes cap c.args.answer c.in_ok-answer.answer s c.from-total.result
-    c.in_ok-proof_of-in-None.field-0 c.keeps_conditions.ensures.problem begun.tells
+    c.in_ok-proof_of-in-None.field-0 c.keeps_problem_on_graph.ensures.problem begun.tells
     c.in_ok-standing.ensures.standing ended c.in_ok-answer.ensures c.from-total.ensures
     (c.in_ok-proof_of-in-None.ensures p limits.top limits.nodes cap s.least begun.can
     c.in_ok-standing.ensures.standing.kept))

@@ -21,7 +21,7 @@ with_trees-requires c =
 pub box_at-requires : goal.box_at-requires
 box_at-requires c =
     let p = c.args.problem.now in
-    lows_within p c.greatest_of-cap.result c.keeps_conditions.ensures.problem (c.greatest_of-cap.ensures
+    lows_within p c.greatest_of-cap.result c.keeps_problem_on_graph.ensures.problem (c.greatest_of-cap.ensures
     ∙ ap greatest_cost (c.as_slice-2.ensures ∙ ap (λ (q : DesignProblem). q.high) c.problem.view_is))
 
 pub answered-requires-clause-sought : goal.answered-requires-clause-sought

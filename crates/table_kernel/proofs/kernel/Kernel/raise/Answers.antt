@@ -1,4 +1,5 @@
--- The line is put down and a column chosen, which only takes room; then the pivot lets the rank rise, or the line is stuck.
+-- The line is put down and a column chosen, which only takes room; then the pivot lets the rank rise, or the line is
+-- stuck.
 use Rattle.std.proofs.Common.{subst, inl, inr, ◌<◌}
 use Rattle.std.specs.Prelude.{None, Some}
 use Rattle.fraction_table.specs.declared.table.Table.{Table}
