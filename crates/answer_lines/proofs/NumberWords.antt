@@ -2,7 +2,7 @@
 use Rattle.std.proofs.Common.{◌≡◌, ◌≢◌, ℕ, ◌≤◌, List, [], ◌∷◌, ◌++◌, All, map, arith, sym}
 use Rattle.std.proofs.lemmas.List.Elements.{All-nil, All-cons, All-head, All-tail, All-append}
 use Rattle.cost_base.specs.Decimal.{decimal}
-use Rattle.design_problem.specs.Bounds.{IsIndex}
+use Rattle.design_problem.specs.AnswerRanges.{IsIndex}
 
 -- numbers go on where the words that were read do
 pub no_number : (xs ns : List ℕ) (left : List (List ℕ)) → All IsIndex ns → map decimal ns ≡ map decimal xs ++ left → left ≢ [] →

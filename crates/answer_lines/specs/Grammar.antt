@@ -9,12 +9,12 @@ use Rattle.design_problem.specs.declared.form.Row.{Row}
 use Rattle.design_problem.specs.declared.tree.Entry.{Entry}
 use Rattle.design_problem.specs.declared.answer.Verdict.{Verdict}
 use Rattle.design_problem.specs.declared.answer.Floor.{Floor}
-use Rattle.design_problem.specs.Bounds.{IsIndex, IsCost, IsRowNumber, BoundsVerdict, BoundsFloor, BoundsRow, BoundsEntry}
+use Rattle.design_problem.specs.AnswerRanges.{IsIndex, IsCost, IsRowNumber, BoundsVerdict, BoundsFloor, BoundsRow, BoundsEntry}
 use Rattle.design_problem.specs.Text.{spaced, row_line, entry_line, FitsEntry, verdict_line, costs_line, interface_line, answer_cost_line, floor_line, rows_line}
 use Rattle.design_problem.specs.Trees.{subtree_count}
 use Rattle.evidence_text.specs.Parts.{no_tree_line, tree_line}
 use Rattle.evidence_text.specs.declared.TreePart.{TreePart}
-use Rattle.evidence_text.specs.declared.TreePart.TheVariants.{Proof, Unfinished}
+use Rattle.evidence_text.specs.declared.TreePart.TheVariants.{Proof, Undecided}
 use Rattle.answer_lines.specs.declared.other_text.OtherText.{OtherText}
 use Rattle.answer_lines.specs.declared.other_text.OtherText.TheVariants.{Total, Spread, Change}
 
@@ -219,8 +219,8 @@ Next (AtRow (suc left)) line next = IsRowNext left line next
 Next (AtTree part (suc places) (suc left)) line next = IsEntryNext part places left line next
 Next (AtTree part zero (suc left)) line next = ⊥
 Next (AtTree part (suc places) zero) line next = ⊥
-Next (AtTree Proof zero zero) line next = IsPartNext Unfinished line next
-Next (AtTree Unfinished zero zero) line next = (line ≡ codes "wide none") × (next ≡ AtEnd)
+Next (AtTree Proof zero zero) line next = IsPartNext Undecided line next
+Next (AtTree Undecided zero zero) line next = (line ≡ codes "wide none") × (next ≡ AtEnd)
 Next AtEnd line next = (line ≡ codes "end") × (next ≡ AfterEnd)
 Next AfterEnd line next = ⊥
 Next (AtOtherHead text) line next = (line ≡ other_head text) × (next ≡ behind_other_head text)

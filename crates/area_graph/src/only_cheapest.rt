@@ -21,7 +21,7 @@ pub const FAR: u128 = 1 << 26;
 
 /// A path with what a request says of it.
 #[derive(Clone, Copy)]
-pub struct WantedPath<'a> {
+pub struct BorrowedRequest<'a> {
     /// The path.
     pub path: &'a Path,
     /// The vertex where it is to end.
@@ -124,7 +124,7 @@ pub fn is_only_cheapest(
     alloc: Global,
     graph: &Graph,
     point: &Point,
-    wanted: &WantedPath<'_>,
+    wanted: &BorrowedRequest<'_>,
 ) -> Result<bool, OutOfMemory>
     requires fits { FitsPoint graph.now point.now }
     requires path { IsPathOf graph.now (ends_wanted wanted.now) wanted.now.path.now.edges }

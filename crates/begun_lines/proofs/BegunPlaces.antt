@@ -5,7 +5,7 @@ use Rattle.design_problem.specs.declared.answer.Verdict.{Verdict}
 use Rattle.design_problem.specs.declared.answer.Verdict.TheVariants.{Optimal, Impossible, Undecided}
 use Rattle.design_problem.specs.declared.answer.Floor.{Floor}
 use Rattle.design_problem.specs.declared.answer.Floor.TheVariants.{Absent, Empty, Var}
-use Rattle.design_problem.specs.Bounds.{BoundsVerdict, BoundsFloor}
+use Rattle.design_problem.specs.AnswerRanges.{BoundsVerdict, BoundsFloor}
 use Rattle.text_lines.proofs.Digits.{length-decimal-le}
 use Rattle.design_problem.specs.Text.{verdict_line, floor_line}
 use Rattle.answer_lines.specs.declared.other_text.OtherText.{OtherText}

@@ -3,7 +3,7 @@ ghost use Rattle.std.specs.Prelude.{◌≡◌};
 ghost use Rattle.design_problem.specs.Text.{step_word};
 
 use cost_base::{Ratio, StepName};
-use design_problem::{Entry, Member, Parts, Side, WideAt};
+use design_problem::{Entry, Member, Multipliers, Side, WideAt};
 use std::fmt;
 use wide_fraction::Wide;
 
@@ -75,7 +75,7 @@ impl fmt::Display for Part {
 }
 
 /// The multipliers of rows, as they are written in a tree.
-fn write_parts<W: fmt::Write>(parts: &Parts, f: &mut fmt::Formatter<W>) -> fmt::Result {
+fn write_parts<W: fmt::Write>(parts: &Multipliers, f: &mut fmt::Formatter<W>) -> fmt::Result {
     write!(f, "refute")?;
     for (row, multiplier) in parts.as_slice() {
         write!(f, " {row} {multiplier}")?;

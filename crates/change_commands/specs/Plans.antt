@@ -39,12 +39,12 @@ plan_with answer d = file_read longest_answer answer >>= λ bytes. Ready (record
 
 -- the network is one at present costs: they are above 0, and its problem is the one that they make
 pub record IsAtPresent (network : Network) : Type 0 where
-  pub above : All (λ cost. 0 < cost) (present_of_links network.requests network.lsdb)
-  pub problem : network.problem ≡ present_problem_of network.requests network.lsdb
+  pub above : All (λ cost. 0 < cost) (present_of_links network.request_file network.lsdb)
+  pub problem : network.problem ≡ present_problem_of network.request_file network.lsdb
 
 -- the plan's network has these requests, this database and this problem
 pub record IsPlanOf (network : Network) (plan : Plan) : Type 0 where
-  pub requests : network.requests ≡ plan.input.asked
+  pub request_file : network.request_file ≡ plan.input.asked
   pub lsdb : network.lsdb ≡ plan.input.database
   pub problem : network.problem ≡ plan.input.problem
 
@@ -117,4 +117,4 @@ moves_of by d lines = moves_between by d.database (present_of_links d.asked d.da
 
 -- the rollout from present costs to those of cost lines; in its graph each linked interface has a variable of its own
 abbrev pub rollout_of : StepUnit → Input → List CostLine → Rollout
-rollout_of by d lines = record { graph = graph_by_links d.database; paths = d.problem.paths; moves = moves_of by d lines }
+rollout_of by d lines = record { graph = graph_by_links d.database; requests = d.problem.requests; moves = moves_of by d lines }

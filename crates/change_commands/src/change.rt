@@ -39,8 +39,8 @@ fn text_of_change(
     present: &[Option<u16>],
     change: &Change,
 ) -> Result<Vec<u8>, OutOfMemory>
-    requires built { network.now.problem ≡ problem_of network.now.requests network.now.lsdb }
-    requires present { present.now ≡ present_of_variables network.now.requests network.now.lsdb }
+    requires built { network.now.problem ≡ problem_of network.now.request_file network.now.lsdb }
+    requires present { present.now ≡ present_of_variables network.now.request_file network.now.lsdb }
     requires found { (top : ℕ) × (nodes : ℕ) × (nodes ≤ 10000000) ×
         IsChangeFound (record {
           problem = network.now.problem;
@@ -48,7 +48,7 @@ fn text_of_change(
           top = top;
           nodes = nodes;
         }) change.now }
-    ensures { IfOk result (λ text. text.items ≡ change_text network.now.requests network.now.lsdb
+    ensures { IfOk result (λ text. text.items ≡ change_text network.now.request_file network.now.lsdb
         network.now.problem change.now) }
 {
     keeps_problem_on_graph(&network.problem);
@@ -64,8 +64,8 @@ fn text_of_change(
         Change::Undecided {
             costs,
             evidence,
-            open,
-        } => undecided_text(alloc, network, costs.as_ref(), evidence, open.as_ref()),
+            undecided,
+        } => undecided_text(alloc, network, costs.as_ref(), evidence, undecided.as_ref()),
     }
 }
 
@@ -76,8 +76,8 @@ fn report_of_change(
     present: &[Option<u16>],
     change: &Change,
 ) -> Result<Report, OutOfMemory>
-    requires built { network.now.problem ≡ problem_of network.now.requests network.now.lsdb }
-    requires present { present.now ≡ present_of_variables network.now.requests network.now.lsdb }
+    requires built { network.now.problem ≡ problem_of network.now.request_file network.now.lsdb }
+    requires present { present.now ≡ present_of_variables network.now.request_file network.now.lsdb }
     requires found { (top : ℕ) × (nodes : ℕ) × (nodes ≤ 10000000) ×
         IsChangeFound (record {
           problem = network.now.problem;
@@ -86,7 +86,7 @@ fn report_of_change(
           nodes = nodes;
         }) change.now }
     ensures { IfOk result
-        (Reports (change_status change.now) (change_text network.now.requests network.now.lsdb
+        (Reports (change_status change.now) (change_text network.now.request_file network.now.lsdb
         network.now.problem change.now)) }
 {
     let text = text_of_change(alloc, network, present, change)?;
@@ -100,9 +100,9 @@ fn report_of_present(
     present: &[Option<u16>],
     limits: &Limits,
 ) -> Result<Report, OutOfMemory>
-    requires built { network.now.problem ≡ problem_of network.now.requests network.now.lsdb }
-    requires present { present.now ≡ present_of_variables network.now.requests network.now.lsdb }
-    ensures { IfOk result (IsReportIn (limits_seen limits.now) network.now.requests network.now.lsdb
+    requires built { network.now.problem ≡ problem_of network.now.request_file network.now.lsdb }
+    requires present { present.now ≡ present_of_variables network.now.request_file network.now.lsdb }
+    ensures { IfOk result (IsReportIn (limits_seen limits.now) network.now.request_file network.now.lsdb
         network.now.problem) }
 {
     keeps_greatest_bound(&network.problem);
@@ -119,12 +119,12 @@ fn report_of_network<'a>(
     network: &Network,
     limits: &Limits,
 ) -> Result<Report, Stop<'a>>
-    requires { network.now.problem ≡ problem_of network.now.requests network.now.lsdb }
-    ensures made { IfOk result (IsReportIn (limits_seen limits.now) network.now.requests
+    requires { network.now.problem ≡ problem_of network.now.request_file network.now.lsdb }
+    ensures made { IfOk result (IsReportIn (limits_seen limits.now) network.now.request_file
         network.now.lsdb network.now.problem) }
     ensures wanting { IfErr result (λ stop. stop ≡ Stop.OutOfMemory) }
 {
-    let costs = present_of_variables(alloc, &network.requests, &network.lsdb, &network.problem)?;
+    let costs = present_of_variables(alloc, &network.request_file, &network.lsdb, &network.problem)?;
     Ok(report_of_present(alloc, network, costs.as_slice(), limits)?)
 }
 

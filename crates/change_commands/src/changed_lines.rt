@@ -65,8 +65,8 @@ pub(crate) fn changed_lines(
     network: &Network,
     costs: &[u16],
 ) -> Result<Vec<CostLine>, OutOfMemory>
-    requires { network.now.problem ≡ problem_of network.now.requests network.now.lsdb }
-    ensures { IfOk result (λ lines. lines.items ≡ changed_lines network.now.requests
+    requires { network.now.problem ≡ problem_of network.now.request_file network.now.lsdb }
+    ensures { IfOk result (λ lines. lines.items ≡ changed_lines network.now.request_file
         network.now.lsdb costs.now) }
 {
     let graph = graph_of(network);
@@ -74,7 +74,7 @@ pub(crate) fn changed_lines(
     for (i, link) in network.lsdb.links().iter().enumerate() {
         let cost = changed_cost(
             price_of_link(graph, i as u32),
-            present_cost(&network.requests, link),
+            present_cost(&network.request_file, link),
             costs,
         );
         push_changed(alloc, &mut lines, &network.lsdb, link, cost)?;

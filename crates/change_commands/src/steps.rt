@@ -54,9 +54,9 @@ fn status_of(outcome: &Outcome) -> Status
 
 /// The requests of a problem. For the prover: a call, so that the caller's goals have this part alone.
 fn paths_of(problem: &Problem) -> &[Request]
-    ensures { result.now ≡ problem.now.paths }
+    ensures { result.now ≡ problem.now.requests }
 {
-    problem.paths.as_slice()
+    problem.requests.as_slice()
 }
 
 /// What is found of the steps of moves.
@@ -68,12 +68,12 @@ fn steps_of_moves(
 ) -> Result<Steps, OutOfMemory>
     requires priced { All (λ edge. IsPriced (length moves.now.present) edge.price)
         (graph_by_links network.now.lsdb).edges }
-    requires paths { ArePathsOf (graph_by_links network.now.lsdb) network.now.problem.paths }
-    requires few { length network.now.problem.paths ≤ 10000 }
+    requires requests { ArePathsOf (graph_by_links network.now.lsdb) network.now.problem.requests }
+    requires few { length network.now.problem.requests ≤ 10000 }
     ensures { IfOk result
         (AreStepsFound (record {
           graph = graph_by_links network.now.lsdb;
-          paths = network.now.problem.paths;
+          requests = network.now.problem.requests;
           moves = moves.now;
         }) nodes) }
 {
@@ -109,12 +109,12 @@ fn report_of_moves(
 ) -> Result<Report, OutOfMemory>
     requires priced { All (λ edge. IsPriced (length moves.now.present) edge.price)
         (graph_by_links network.now.lsdb).edges }
-    requires paths { ArePathsOf (graph_by_links network.now.lsdb) network.now.problem.paths }
-    requires few { length network.now.problem.paths ≤ 10000 }
+    requires requests { ArePathsOf (graph_by_links network.now.lsdb) network.now.problem.requests }
+    requires few { length network.now.problem.requests ≤ 10000 }
     ensures { IfOk result (ReportsSteps words.entry.nodes words.entry.by names.now
         (record {
           graph = graph_by_links network.now.lsdb;
-          paths = network.now.problem.paths;
+          requests = network.now.problem.requests;
           moves = moves.now;
         })) }
 {
@@ -136,7 +136,7 @@ fn report_of_wanted(
     // The network is at its present costs, and has the database of the names.
     requires network { IsAtPresent network.now }
     requires names { names.now ≡ network.now.lsdb }
-    requires present { present.items ≡ present_of_links network.now.requests network.now.lsdb }
+    requires present { present.items ≡ present_of_links network.now.request_file network.now.lsdb }
 
     // Each link has a wanted cost, at least 1.
     requires wanted { length wanted.items ≡ length names.now.links }
@@ -146,7 +146,7 @@ fn report_of_wanted(
     ensures { IfOk result (ReportsSteps words.entry.nodes words.entry.by names.now
         (record {
           graph = graph_by_links network.now.lsdb;
-          paths = network.now.problem.paths;
+          requests = network.now.problem.requests;
           moves = moves_between words.entry.by names.now present.items wanted.items;
         })) }
 {
@@ -174,7 +174,7 @@ fn report_by_names(
         SaysCosts plan.bytes (Some lines.now) → MaySteps words.entry.nodes words.entry.by plan
         report.status (bytes_in report.text)) }
 {
-    let present = costs_of_links(alloc, &network.requests, &network.lsdb)?;
+    let present = costs_of_links(alloc, &network.request_file, &network.lsdb)?;
     match wanted_costs(alloc, names, &present, lines)? {
         Ok(wanted) => report_of_wanted(network, names, present, wanted, words),
         Err(fault) => Report::rejected(alloc, Rejection::at(0, fault)),

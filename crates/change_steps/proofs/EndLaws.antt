@@ -14,7 +14,7 @@ use Rattle.change_steps.specs.declared.kinds.Kind.TheVariants.{First, Between, L
 use Rattle.change_steps.specs.declared.found.Blocked.{Blocked}
 use Rattle.change_steps.specs.declared.found.Steps.{Steps}
 use Rattle.change_steps.specs.declared.found.Stuck.{Stuck}
-use Rattle.change_steps.specs.declared.walk.Walk.{Walk}
+use Rattle.change_steps.specs.declared.state_search.Walk.{Walk}
 use Rattle.change_steps.specs.Rollouts.{IsRollout, Rollout, step_count}
 use Rattle.change_steps.specs.Orders.{AreHeld, IsSafe, IsSafeOrder}
 use Rattle.change_steps.specs.Kinds.{comes_between, comes_first, comes_last, first_steps, kind_of_step, steps_between}

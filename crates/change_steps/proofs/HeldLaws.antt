@@ -31,7 +31,7 @@ held_none r held none = subst (AreHeldBelow r 0) (sym none) (record {
 })
 
 -- the first ones are all
-pub held_all : (r : Rollout) (held : List ℕ) (n : ℕ) → n ≡ length r.paths → AreHeldBelow r n held → AreHeld r held
+pub held_all : (r : Rollout) (held : List ℕ) (n : ℕ) → n ≡ length r.requests → AreHeldBelow r n held → AreHeld r held
 held_all r held n all are = record {
   rising = are.rising;
   known = subst (λ (m : ℕ). All (λ k. k < m) held) all are.known;

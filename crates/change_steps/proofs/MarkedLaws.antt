@@ -47,10 +47,10 @@ path_more g es i v was here now within so_far more =
     ∙ ap (λ (b : Bool). was || b) (sym (goes_more g es i v within))
 
 -- the edges of a path of a request are edges of the graph
-pub path_known : (r : Rollout) (k : ℕ) → IsRollout r → k < length r.paths → All (λ e. e < length r.graph.edges) (request_at r.paths k).path.edges
+pub path_known : (r : Rollout) (k : ℕ) → IsRollout r → k < length r.requests → All (λ e. e < length r.graph.edges) (request_at r.requests k).path.edges
 path_known r k is within =
-    let path : IsPathOf r.graph (request_ends (request_at r.paths k)) (request_at r.paths k).path.edges = is.paths k no_request within in
-    joined_known r.graph (request_at r.paths k).path.start (request_at r.paths k).path.edges (request_at r.paths k).end path.simple.joins
+    let path : IsPathOf r.graph (request_ends (request_at r.requests k)) (request_at r.requests k).path.edges = is.requests k no_request within in
+    joined_known r.graph (request_at r.requests k).path.start (request_at r.requests k).path.edges (request_at r.requests k).end path.simple.joins
 
 -- Held paths.
 
@@ -62,12 +62,12 @@ held_none_marked r marks count none = record { count = count; told = λ v within
     nothing v = refl
 
 lies_more : (r : Rollout) (held : List ℕ) (i v : ℕ) → i < length held →
-    lies_on_held r (take (i + 1) held) v ≡ (lies_on_held r (take i held) v || goes_over r.graph (request_at r.paths (get_or held i 0)).path.edges v)
+    lies_on_held r (take (i + 1) held) v ≡ (lies_on_held r (take i held) v || goes_over r.graph (request_at r.requests (get_or held i 0)).path.edges v)
 unfolding lies_on_held
-lies_more r held i v within = list_any_more (λ k. goes_over r.graph (request_at r.paths k).path.edges v) held i 0 within
+lies_more r held i v within = list_any_more (λ k. goes_over r.graph (request_at r.requests k).path.edges v) held i 0 within
 
 pub held_more_marked : (r : Rollout) (held edges : List ℕ) (i : ℕ) (marks new : List Bool) (g : Area) → i < length held →
-    AreHeldMarks r (take i held) marks → g ≡ r.graph → edges ≡ (request_at r.paths (get_or held i 0)).path.edges → length new ≡ length marks →
+    AreHeldMarks r (take i held) marks → g ≡ r.graph → edges ≡ (request_at r.requests (get_or held i 0)).path.edges → length new ≡ length marks →
     ((v : ℕ) → v < length marks → get_or new v false ≡ (get_or marks v false || goes_over g edges v)) → AreHeldMarks r (take (i + 1) held) new
 held_more_marked r held edges i marks new g within are graph edges_are count told = record {
   count = count ∙ are.count;

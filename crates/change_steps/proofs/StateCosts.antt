@@ -89,7 +89,7 @@ costs_agree m f g agree = costs_alike m f g (λ v. same_test (is_changed m f v) 
 
 pub only_agree : (r : Rollout) (f g : ℕ → Bool) (k : ℕ) → ((i : ℕ) → i < length r.moves.steps → f i ≡ g i) → IsOnlyIn r f k → IsOnlyIn r g k
 only_agree r f g k agree only = subst (λ (ws : List ℕ).
-    IsOnlyCheapest r.graph (at_costs ws) (request_ends (request_at r.paths k)) (request_at r.paths k).path.edges)
+    IsOnlyCheapest r.graph (at_costs ws) (request_ends (request_at r.requests k)) (request_at r.requests k).path.edges)
     (costs_agree r.moves f g agree) only
 
 pub safe_agree : (r : Rollout) (held : List ℕ) (f g : ℕ → Bool) → ((i : ℕ) → i < length r.moves.steps → f i ≡ g i) →
@@ -154,13 +154,13 @@ costs_le m f g v less = elim (cases_lt v (length m.present)) [
 -- in another state the path of a request stays the only cheapest where the costs of its variables don't rise, and those
 -- of edges off it don't fall
 pub only_by_costs : (r : Rollout) (f g : ℕ → Bool) (k : ℕ) → IsRollout r → IsOnlyIn r f k →
-    ((v : ℕ) → goes_over r.graph (request_at r.paths k).path.edges v ≡ true → cost_in r.moves g v ≤ cost_in r.moves f v) →
-    ((e v : ℕ) → e < length r.graph.edges → (Has (request_at r.paths k).path.edges e → ⊥) → (edge_at r.graph e).price ≡ Var v →
+    ((v : ℕ) → goes_over r.graph (request_at r.requests k).path.edges v ≡ true → cost_in r.moves g v ≤ cost_in r.moves f v) →
+    ((e v : ℕ) → e < length r.graph.edges → (Has (request_at r.requests k).path.edges e → ⊥) → (edge_at r.graph e).price ≡ Var v →
     cost_in r.moves f v ≤ cost_in r.moves g v) → IsOnlyIn r g k
 only_by_costs r f g k is only on off =
-    only_kept r.graph (at_costs (costs_in r.moves f)) (at_costs (costs_in r.moves g)) (request_ends (request_at r.paths k))
-    (request_at r.paths k).path.edges only
+    only_kept r.graph (at_costs (costs_in r.moves f)) (at_costs (costs_in r.moves g)) (request_ends (request_at r.requests k))
+    (request_at r.requests k).path.edges only
     (λ e has. price_le (costs_in r.moves g) (costs_in r.moves f) (edge_at r.graph e).price
-    (λ v price. costs_le r.moves g f v (on v (goes_if r.graph (request_at r.paths k).path.edges e v has price))))
+    (λ v price. costs_le r.moves g f v (on v (goes_if r.graph (request_at r.requests k).path.edges e v has price))))
     (λ e known away. price_le (costs_in r.moves f) (costs_in r.moves g) (edge_at r.graph e).price
     (λ v price. costs_le r.moves f g v (off e v known away price)))

@@ -8,15 +8,15 @@ use Rattle.cost_base.proofs.ListLemmas.{none_twice_seam}
 use Rattle.cost_base.specs.Marks.{is_marked, is_one_of}
 use Rattle.cost_base.proofs.MarkLaws.{one_of_has}
 use Rattle.spf_ties.specs.Distances.{IsRoomFor}
-use Rattle.change_steps.specs.declared.walk.Walk.{Walk}
-use Rattle.change_steps.specs.declared.walk.End.{End}
-use Rattle.change_steps.specs.declared.walk.End.TheVariants.{Exhausted, UsedUp}
+use Rattle.change_steps.specs.declared.state_search.Walk.{Walk}
+use Rattle.change_steps.specs.declared.state_search.End.{End}
+use Rattle.change_steps.specs.declared.state_search.End.TheVariants.{Exhausted, UsedUp}
 use Rattle.change_steps.specs.Rollouts.{IsRollout, step_count}
 use Rattle.change_steps.specs.Orders.{AreHeld, IsSafe}
 use Rattle.change_steps.specs.Kinds.{first_steps}
 use Rattle.change_steps.specs.States.{MayFollow, marks_of}
 use Rattle.change_steps.specs.Search.{AllLack, HasMore, HeldRollout, IsExplored, IsNewStep, IsSearch, IsStateOf, Position, order_behind_first, longer_of, way_state}
-use Rattle.change_steps.specs.Walks.{IsBegun, IsWalkEnded, IsWalkTurned, IsUnderWay, IsSearchWalk, left_of, position_of}
+use Rattle.change_steps.specs.Walks.{IsBegun, IsWalkEnded, IsAfterRound, IsUnderWay, IsSearchWalk, left_of, position_of}
 use Rattle.change_steps.proofs.Keeping.{has_lacks}
 use Rattle.change_steps.proofs.StateLaws.{set_more}
 use Rattle.change_steps.proofs.MarkLaws.{marks_at}
@@ -186,9 +186,9 @@ walk_backs p w v step is end order state done next tested greatest room = record
 
 -- Its turns.
 
-pub turn_spends : (p : HeldRollout) (nodes : ℕ) (w : Walk) (step : ℕ) → IsUnderWay p nodes w → IsNewStep p w.tested w.state.done.items step →
+pub round_uses_up : (p : HeldRollout) (nodes : ℕ) (w : Walk) (step : ℕ) → IsUnderWay p nodes w → IsNewStep p w.tested w.state.done.items step →
     nodes ≤ length w.tested → IsWalkEnded p nodes w UsedUp
-turn_spends p nodes w step is new full = (
+round_uses_up p nodes w step is new full = (
   is,
   (
     let few = is.few in let some = is.walk.search.are.some in omega (arith, few, some, full),
@@ -196,11 +196,11 @@ turn_spends p nodes w step is new full = (
   ),
 )
 
-pub turn_tests : (p : HeldRollout) (nodes : ℕ) (w v : Walk) (step : ℕ) → IsUnderWay p nodes w → length w.tested < nodes → IsSearchWalk p v →
+pub round_tests : (p : HeldRollout) (nodes : ℕ) (w v : Walk) (step : ℕ) → IsUnderWay p nodes w → length w.tested < nodes → IsSearchWalk p v →
     v.tested ≡ w.tested ++ set w.state.done.items step true ∷ [] → length v.order.items ≤ length w.order.items + 1 →
     (IsSafe p.rollout p.held (is_marked (set w.state.done.items step true)) → (k : ℕ) × MayFollow p.rollout p.held (set w.state.done.items step true) k) →
     IsUnderWay p nodes v × (left_of nodes v < left_of nodes w)
-turn_tests p nodes w v step is room walk tested order lacks = (
+round_tests p nodes w v step is room walk tested order lacks = (
   record {
     walk = walk;
     lack = subst (AllLack p) (sym tested) (lack_push p w.tested (set w.state.done.items step true) is.lack lacks);
@@ -209,9 +209,9 @@ turn_tests p nodes w v step is room walk tested order lacks = (
   (let count = ap length tested in let more = length_push w.tested (set w.state.done.items step true) in omega (arith, count, more, room, order)),
 )
 
-pub turn_backs : (p : HeldRollout) (nodes : ℕ) (w v : Walk) → IsUnderWay p nodes w → IsSearchWalk p v → v.tested ≡ w.tested →
+pub round_goes_back : (p : HeldRollout) (nodes : ℕ) (w v : Walk) → IsUnderWay p nodes w → IsSearchWalk p v → v.tested ≡ w.tested →
     length v.order.items + 1 ≡ length w.order.items → IsUnderWay p nodes v × (left_of nodes v < left_of nodes w)
-turn_backs p nodes w v is walk tested order = (
+round_goes_back p nodes w v is walk tested order = (
   record {
     walk = walk;
     lack = subst (AllLack p) (sym tested) is.lack;
@@ -220,9 +220,9 @@ turn_backs p nodes w v is walk tested order = (
   (let count = ap length tested in omega (arith, count, order)),
 )
 
-pub turn_exhausts : (p : HeldRollout) (nodes : ℕ) (w v : Walk) → IsUnderWay p nodes w → IsSearchWalk p v → v.tested ≡ w.tested → v.order.items ≡ [] →
+pub round_ends : (p : HeldRollout) (nodes : ℕ) (w v : Walk) → IsUnderWay p nodes w → IsSearchWalk p v → v.tested ≡ w.tested → v.order.items ≡ [] →
     v.next ≡ step_count p.rollout → IsWalkEnded p nodes v Exhausted
-turn_exhausts p nodes w v is walk tested order next = (
+round_ends p nodes w v is walk tested order next = (
   record {
     walk = walk;
     lack = subst (AllLack p) (sym tested) is.lack;
@@ -239,8 +239,8 @@ under_way_same p nodes w v is walk tested = record {
   few = let count = ap length tested in let few = is.few in omega (arith, count, few);
 }
 
-pub turned_same : (p : HeldRollout) (nodes : ℕ) (w u v : Walk) (end : Option End) → u.tested ≡ w.tested → u.order.items ≡ w.order.items →
-    IsWalkTurned p nodes u v end → IsWalkTurned p nodes w v end
-turned_same p nodes w u v None tested order turned =
-    (turned.0, (let count = ap length tested in let steps = ap length order in let less = turned.1 in omega (arith, count, steps, less)))
-turned_same p nodes w u v (Some end) tested order turned = turned
+pub after_round_same : (p : HeldRollout) (nodes : ℕ) (w u v : Walk) (end : Option End) → u.tested ≡ w.tested → u.order.items ≡ w.order.items →
+    IsAfterRound p nodes u v end → IsAfterRound p nodes w v end
+after_round_same p nodes w u v None tested order after_round =
+    (after_round.0, (let count = ap length tested in let steps = ap length order in let less = after_round.1 in omega (arith, count, steps, less)))
+after_round_same p nodes w u v (Some end) tested order after_round = after_round

@@ -33,15 +33,15 @@ costs_in m done = map (cost_in m done) (numbers_from 0 (length m.present))
 -- in that state the path of a request is the only cheapest among all its simple paths
 abbrev pub IsOnlyIn : Rollout → (ℕ → Bool) → ℕ → Type 0
 IsOnlyIn r done k =
-    IsOnlyCheapest r.graph (at_costs (costs_in r.moves done)) (request_ends (request_at r.paths k)) (request_at r.paths k).path.edges
+    IsOnlyCheapest r.graph (at_costs (costs_in r.moves done)) (request_ends (request_at r.requests k)) (request_at r.requests k).path.edges
 
 -- held: the numbers, rising, of the paths that are the only cheapest both at present and after all steps
 pub record AreHeld (r : Rollout) (held : List ℕ) : Type 0 where
   pub rising : IsStrictlyIncreasing held
-  pub known : All (λ k. k < length r.paths) held
+  pub known : All (λ k. k < length r.requests) held
   pub present : All (IsOnlyIn r none_done) held
   pub wanted : All (IsOnlyIn r all_done) held
-  pub each : (k : ℕ) → k < length r.paths → IsOnlyIn r none_done k → IsOnlyIn r all_done k → Contains held k
+  pub each : (k : ℕ) → k < length r.requests → IsOnlyIn r none_done k → IsOnlyIn r all_done k → Contains held k
 
 -- a state is safe where each held path is the only cheapest
 abbrev pub IsSafe : Rollout → List ℕ → (ℕ → Bool) → Type 0

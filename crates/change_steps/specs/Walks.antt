@@ -1,9 +1,9 @@
 -- How a walk through the states stands, and how it ends. No public clause cites it.
 use Rattle.std.specs.Prelude.{◌≡◌, ℕ, ◌+◌, ◌-◌, ◌*◌, ◌<◌, ◌≤◌, ◌∷◌, max, [], length, Option, None, Some}
 use Rattle.spf_ties.specs.Distances.{IsRoomFor}
-use Rattle.change_steps.specs.declared.walk.Walk.{Walk}
-use Rattle.change_steps.specs.declared.walk.End.{End}
-use Rattle.change_steps.specs.declared.walk.End.TheVariants.{Complete, Exhausted, UsedUp}
+use Rattle.change_steps.specs.declared.state_search.Walk.{Walk}
+use Rattle.change_steps.specs.declared.state_search.End.{End}
+use Rattle.change_steps.specs.declared.state_search.End.TheVariants.{Complete, Exhausted, UsedUp}
 use Rattle.change_steps.specs.States.{AreAllReached, IsAnotherReached, MayFollow}
 use Rattle.change_steps.specs.Search.{AllLack, HeldRollout, IsSearch, IsStateOf, Position, way_state}
 
@@ -47,7 +47,7 @@ IsWalkEnded p nodes w UsedUp = IsUnderWay p nodes w × ((length w.tested ≡ max
 abbrev pub left_of : ℕ → Walk → ℕ
 left_of nodes w = 2 * (max 1 nodes - length w.tested) + length w.order.items
 
--- after a turn a walk is under way with less left, or it ended
-abbrev pub IsWalkTurned : HeldRollout → ℕ → Walk → Walk → Option End → Type 0
-IsWalkTurned p nodes old new None = IsUnderWay p nodes new × (left_of nodes new < left_of nodes old)
-IsWalkTurned p nodes old new (Some end) = IsWalkEnded p nodes new end
+-- after a round a walk is under way with less left, or it ended
+abbrev pub IsAfterRound : HeldRollout → ℕ → Walk → Walk → Option End → Type 0
+IsAfterRound p nodes old new None = IsUnderWay p nodes new × (left_of nodes new < left_of nodes old)
+IsAfterRound p nodes old new (Some end) = IsWalkEnded p nodes new end

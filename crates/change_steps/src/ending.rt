@@ -11,10 +11,10 @@ ghost use Rattle.change_steps.specs.Walks.{IsWalkEnded, IsSearchWalk};
 
 use crate::found::{Barrier, Blocked, Outcome, Stuck};
 use crate::kinds::Kind;
-use crate::plan::Plan;
+use crate::held_rollout::Plan;
 use crate::state::State;
 use crate::tested::Tested;
-use crate::walk::{End, Walk};
+use crate::state_search::{End, Walk};
 use cost_base::OutOfMemory;
 use spf_ties::Room;
 use std::alloc::Global;

@@ -23,7 +23,7 @@ fn is_only_in_both(
     // Both states and the request are of the rollout.
     requires first { IsStateOf rollout.now first.now }
     requires second { IsStateOf rollout.now second.now }
-    requires known { number < length rollout.now.paths }
+    requires known { number < length rollout.now.requests }
 
     // The room is one for the rollout's graph, before and after.
     requires room { IsRoomFor rollout.now.graph room.old }
@@ -61,7 +61,7 @@ fn held_in(
     ensures held { IfOk result (λ held. AreHeld rollout.now held.items) }
 {
     let mut held = Vec::new(alloc);
-    for number in 0..rollout.path_count() {
+    for number in 0..rollout.request_count() {
         let is_held = is_only_in_both(rollout, present, wanted, number, room);
         push_if(&mut held, number, is_held)?;
     }

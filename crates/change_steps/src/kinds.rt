@@ -62,7 +62,7 @@ fn mark_path(marks: &mut Vec<bool>, graph: &Graph, edges: &[u32])
 
 /// A mark for each variable that lies on a held path.
 fn mark_held(alloc: Global, rollout: &Rollout, held: &[u32]) -> Result<Vec<bool>, OutOfMemory>
-    requires { All (λ k. k < length rollout.now.paths) held.now }
+    requires { All (λ k. k < length rollout.now.requests) held.now }
     ensures { IfOk result (λ marks. AreHeldMarks rollout.now held.now marks.items) }
 {
     rollout.keeps_conditions();
@@ -140,7 +140,7 @@ pub(crate) fn kinds_of(
     rollout: &Rollout,
     held: &[u32],
 ) -> Result<Vec<Kind>, OutOfMemory>
-    requires { All (λ k. k < length rollout.now.paths) held.now }
+    requires { All (λ k. k < length rollout.now.requests) held.now }
     ensures { IfOk result (λ kinds. kinds.items ≡ map (kind_of_step rollout.now held.now)
         (numbers_from 0 (step_count rollout.now))) }
 {

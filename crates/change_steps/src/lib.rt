@@ -7,12 +7,12 @@ mod found;
 mod held;
 mod kinds;
 mod moves;
-mod plan;
+mod held_rollout;
 mod reach;
 mod rollout;
 mod state;
 mod tested;
-mod walk;
+mod state_search;
 
 pub use finding::find_steps;
 pub use found::{Barrier, Blocked, Outcome, Steps, Stuck};

@@ -123,7 +123,7 @@ fn mark_starts(marks: &mut Vec<bool>, graph: &Graph, edges: &[u32])
 
 /// Marks the ends of the held paths.
 fn mark_ends(marks: &mut Vec<bool>, rollout: &Rollout, held: &[u32])
-    requires { All (λ k. k < length rollout.now.paths) held.now }
+    requires { All (λ k. k < length rollout.now.requests) held.now }
     ensures { length marks.new.items ≡ length marks.old.items }
 {
     for number in held {
@@ -176,7 +176,7 @@ fn mark_asked(
     kinds: &[Kind],
     edges: &[Listed<u32>],
 ) -> Result<Vec<bool>, OutOfMemory>
-    requires { All (λ k. k < length rollout.now.paths) held.now }
+    requires { All (λ k. k < length rollout.now.requests) held.now }
     ensures { IfOk result (λ asked. length asked.items ≡ length rollout.now.graph.vertices) }
 {
     let graph = rollout.graph();
@@ -275,7 +275,7 @@ impl Reach {
         room: &mut Room,
     ) -> Result<Reach, OutOfMemory>
         requires room { IsRoomFor rollout.now.graph room.old }
-        requires held { All (λ k. k < length rollout.now.paths) held.now }
+        requires held { All (λ k. k < length rollout.now.requests) held.now }
         ensures room { IsRoomFor rollout.now.graph room.new }
         ensures reach { IfOk result (IsReach rollout.now) }
     {
@@ -332,7 +332,7 @@ impl Reach {
     fn are_dearer_over(&self, rollout: &Rollout, state: &State, number: u32, edge: u32) -> bool
         requires reach { IsReach rollout.now self.now }
         requires state { IsStateOf rollout.now state.now }
-        requires number { number < length rollout.now.paths }
+        requires number { number < length rollout.now.requests }
         requires edge { edge < length rollout.now.graph.edges }
         ensures { IsTrue result → AreDearerOver rollout.now (is_marked state.now.done.items) number
             edge }
@@ -352,7 +352,7 @@ impl Reach {
     fn is_harmless(&self, rollout: &Rollout, state: &State, number: u32, edge: u32) -> bool
         requires reach { IsReach rollout.now self.now }
         requires state { IsStateOf rollout.now state.now }
-        requires number { number < length rollout.now.paths }
+        requires number { number < length rollout.now.requests }
         requires edge { edge < length rollout.now.graph.edges }
         ensures { IsTrue result → IsHarmless rollout.now (is_marked state.now.done.items) number
             edge }
@@ -371,7 +371,7 @@ impl Reach {
     pub(crate) fn spares(&self, rollout: &Rollout, state: &State, number: u32, step: usize) -> bool
         requires reach { IsReach rollout.now self.now }
         requires state { IsStateOf rollout.now state.now }
-        requires number { number < length rollout.now.paths }
+        requires number { number < length rollout.now.requests }
         requires step { step < step_count rollout.now }
         ensures { IsTrue result →
             All (IsHarmless rollout.now (is_marked state.now.done.items) number)

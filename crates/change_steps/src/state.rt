@@ -118,7 +118,7 @@ impl State {
     /// Whether the path of a request is the only cheapest in the state.
     pub(crate) fn is_only(&self, rollout: &Rollout, number: u32, room: &mut Room) -> bool
         requires state { IsStateOf rollout.now self.now }
-        requires known { number < length rollout.now.paths }
+        requires known { number < length rollout.now.requests }
         requires room { IsRoomFor rollout.now.graph room.old }
         ensures room { IsRoomFor rollout.now.graph room.new }
         ensures only { IsTrue result ↔

@@ -13,7 +13,7 @@ use Rattle.config_reader.specs.declared.fault.ConfigFault.TheVariants.{LongLine,
 use Rattle.config_reader.specs.Statements.{Statement, Block, Network}
 use Rattle.config_reader.specs.Settings.{Said, said, said_at_place, networks_said}
 use Rattle.config_reader.specs.Configs.{first_heads}
-use Rattle.config_reader.specs.Faults.{router_name_said, is_router_name}
+use Rattle.config_reader.specs.RouterNames.{router_name_said, is_router_name}
 use Rattle.config_reader.specs.FaultList.{Fault, at_line, long_line, is_short, read_line, read_lines, refused, second_address, area_twice, bad_name, faults_of_place, faults}
 use Rattle.config_reader.specs.Reading.{open_block}
 use Rattle.config_reader.specs.Drafting.{earliest, name_fault, name_from}

@@ -19,7 +19,7 @@ use Rattle.config_reader.specs.declared.networks.NetworkLine.{NetworkLine}
 use Rattle.config_reader.specs.Statements.{Statement, AddressIs, AreaIs, CostIs, KindIs, PriorityIs, PassiveIs, DownIs, RouterIdIs, NetworkIs, PassiveInterfaceIs, Refused, Unread, Network, Block, OfInterface, OfRouter, OfOther}
 use Rattle.config_reader.specs.Settings.{Said, said, about, about_router, setting, area_set, router_id_said, interface_address, matches, interface_as_set, area_by_networks}
 use Rattle.config_reader.specs.Configs.{first_heads, firsts, config_of}
-use Rattle.config_reader.specs.Faults.{router_name_said, is_router_name}
+use Rattle.config_reader.specs.RouterNames.{router_name_said, is_router_name}
 use Rattle.config_reader.specs.FaultList.{Fault, at_line, long_line, refused, read_line, read_lines, is_short, config_fault}
 use Rattle.config_reader.specs.Hearing.{heard, sets}
 use Rattle.config_reader.specs.Drafting.{network_line, network_lines, covers, area_among, area_for, finished, new_draft, draft_after, first_second, first_clash, earliest, router_id_set, id_after, name_from, name_fault}

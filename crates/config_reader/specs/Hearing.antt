@@ -10,7 +10,7 @@ use Rattle.config_reader.specs.declared.fault.ConfigFault.{ConfigFault}
 use Rattle.config_reader.specs.Statements.{Statement, Refused, Unread, Block, OfOther, block_of, statement_in, head_statement, begin_with, word_at}
 use Rattle.config_reader.specs.Settings.{Said, said, said_at_place}
 use Rattle.config_reader.specs.Configs.{opened_at, name_with_line, name_opened}
-use Rattle.config_reader.specs.Faults.{last_hostname}
+use Rattle.config_reader.specs.RouterNames.{last_hostname}
 use Rattle.config_reader.specs.FaultList.{Fault, at_line, long_line, refused, read_lines}
 use Rattle.config_reader.specs.Reading.{open_block}
 

@@ -1,7 +1,7 @@
 //! Names of routers.
 ghost use Rattle.std.specs.Prelude.{◌≡◌};
 ghost use Rattle.std.specs.List.{list_all};
-ghost use Rattle.config_reader.specs.Faults as definition;
+ghost use Rattle.config_reader.specs.RouterNames as definition;
 
 use text_lines::cut;
 

@@ -39,7 +39,7 @@ costs_fit : (p : DesignProblem) (cap : ℕ) (w : List ℕ) → IsProblem p → I
 costs_fit p cap w kept inside leads = record {
   within = uncapped (box_of p) cap w inside;
   only = λ k d k_in. record {
-    path = kept.paths k d k_in;
+    path = kept.requests k d k_in;
     others = λ other is_path differs. let more = leads k d k_in other is_path differs in omega arith;
   };
 }

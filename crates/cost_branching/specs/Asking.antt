@@ -15,7 +15,7 @@ use Rattle.cost_branching.specs.Rivals.{IsRivalTooCheap, IsTrueRowForm, KnownRow
 
 -- a request was asked whose path leads, and nothing came
 pub record NoRivalRow (point : Point) (request : ℕ) (old : KnownRows) (old_forms : List Form) (new : KnownRows) (new_forms : List Form) : Type 0 where
-  pub leads : RequestLeads old.problem.graph point (request_at old.problem.paths request)
+  pub leads : RequestLeads old.problem.graph point (request_at old.problem.requests request)
   pub rows : new ≡ old
   pub forms : new_forms ≡ old_forms
 
@@ -35,7 +35,7 @@ IsRequestAsked point request old old_forms new new_forms false = NoRivalRow poin
 
 -- nothing was added where the paths of the first requests lead, and something where one doesn't
 abbrev pub AnswersRequestsBelow : DesignProblem → Point → ℕ → List Form → List Form → Asked → Type 0
-AnswersRequestsBelow p point requests old_forms new_forms Nothing = (new_forms ≡ old_forms) × ((k : ℕ) → k < requests → RequestLeads p.graph point (request_at p.paths k))
+AnswersRequestsBelow p point requests old_forms new_forms Nothing = (new_forms ≡ old_forms) × ((k : ℕ) → k < requests → RequestLeads p.graph point (request_at p.requests k))
 AnswersRequestsBelow p point requests old_forms new_forms Added = (LeadsEach p point → ⊥) × HasNewRival point old_forms new_forms
 
 -- The first requests were asked: rows and forms are in step, and true forms came. A row is of one of these requests, or

@@ -3,7 +3,7 @@ ghost use Rattle.std.specs.Prelude.{◌≤◌, length, All, IfOk, OnOk};
 ghost use Rattle.design_problem.specs.Boxes.{IsBox, capped};
 ghost use Rattle.design_problem.specs.Earnest.{IsLeastPoint};
 ghost use Rattle.design_problem.specs.Rows.{LeadsEach, box_of};
-ghost use Rattle.form_search.specs.Advised.{AreAdvised, AreCalled};
+ghost use Rattle.form_search.specs.AdvisorsAsked.{AreAdvised, AreCalled};
 ghost use Rattle.form_search.specs.Finds.{IsSearchResult};
 ghost use Rattle.cost_branching.specs.Pools.{IsRowPool, MoreRows};
 ghost use Rattle.cost_branching.specs.Decisions.{IsDecided};
@@ -49,7 +49,7 @@ fn search_rivals<B: Begun>(
 {
     keeps_problem_on_graph(problem);
     let alloc = pool.alloc();
-    let asker = Asker::new(alloc, &problem.graph, problem.paths.as_slice())?;
+    let asker = Asker::new(alloc, &problem.graph, problem.requests.as_slice())?;
     let rows = mem::replace(&mut pool.rows, Vec::new(alloc));
     let mut source = Rivals::<B>::new(problem, asker, rows);
     let found = search(&mut source, costs, limits, &mut pool.forms, advisors);

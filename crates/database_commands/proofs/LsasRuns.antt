@@ -62,11 +62,11 @@ few_configs names network d is =
 
 -- what was written of a network
 pub are_written : (names : InputFiles) (network : Network) (d : Input) (costs bytes : List ℕ) →
-    IsNetworkOf AtPresent names network d → costs ≡ map (present_cost network.requests) network.lsdb.links →
+    IsNetworkOf AtPresent names network d → costs ≡ map (present_cost network.request_file) network.lsdb.links →
     bytes ≡ bytes_of_all (written_lsas network.configs.items network.lsdb costs) → SayGraph bytes (graph_at network.lsdb (map Fixed costs)) → AreWritten d bytes
 are_written names network d costs bytes is costs_are written graph =
     let present : costs ≡ present_of_links d.asked d.database = costs_are
-    ∙ ap (λ (a : Asked). map (present_cost a) network.lsdb.links) is.requests
+    ∙ ap (λ (a : Asked). map (present_cost a) network.lsdb.links) is.request_file
     ∙ ap (λ (x : Database). map (present_cost d.asked) x.links) is.lsdb in
     record {
       written = written ∙ ap (λ (rs : List Router). bytes_of_all (written_lsas rs network.lsdb costs)) is.configs
@@ -78,7 +78,7 @@ are_written names network d costs bytes is costs_are written graph =
 
 -- what was written, where there was memory
 pub wrote : {A E : Type 0} → (network : Network) (configs : List Router) (costs : List ℕ) (result : Result (Vec ℕ A) E) →
-    configs ≡ network.configs.items → costs ≡ map (present_cost network.requests) network.lsdb.links →
+    configs ≡ network.configs.items → costs ≡ map (present_cost network.request_file) network.lsdb.links →
     IfOk result (λ bytes. bytes.items ≡ bytes_of_all (written_lsas configs network.lsdb costs)) →
     IfOk result (λ bytes. SayGraph bytes.items (graph_at network.lsdb (map Fixed costs))) →
     IfOk result (λ bytes. (names : InputFiles) → (d : Input) → IsNetworkOf AtPresent names network d → AreWritten d bytes.items)

@@ -3,7 +3,7 @@
 #![tactic(auto)]
 
 mod compare;
-mod database;
+mod routers;
 mod differences;
 mod hops;
 mod identified;

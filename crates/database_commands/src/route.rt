@@ -11,7 +11,7 @@ ghost use Rattle.database_commands.specs.Found.{EndsBy, IsFoundEnd, end_by};
 ghost use Rattle.database_commands.specs.Routes.{IsRoute, MayRoute, route_read, vertex_ids, vertex_of_router};
 ghost use Rattle.report_writer.specs.Reports.{bytes_in};
 
-use crate::database::check_router;
+use crate::routers::check_router;
 use crate::hops::RoutedGraph;
 use crate::vertices::{vertex_ids, vertex_of};
 use area_graph::{Graph, empty_point};
@@ -19,7 +19,7 @@ use cost_base::{OutOfMemory, Shelf, Status};
 use input_files::Stop;
 use line_builder::LineBuilder;
 use live_input::read_database;
-use lsa_bytes::{Database, graph_of_lsas};
+use lsa_bytes::{LsaDatabase, graph_of_lsas};
 use report_writer::Report;
 use spf_ties::Room;
 use std::alloc::Global;
@@ -87,7 +87,7 @@ fn own_end(alloc: Global) -> Result<LineBuilder, OutOfMemory>
 /// What is found of a route between two routers of a database by their vertices.
 fn routed_end(
     alloc: Global,
-    database: &Database,
+    database: &LsaDatabase,
     from: u32,
     to: u32,
 ) -> Result<LineBuilder, OutOfMemory>
@@ -106,7 +106,7 @@ fn routed_end(
 /// What is found of a route between two routers of a database.
 fn found_end(
     alloc: Global,
-    database: &Database,
+    database: &LsaDatabase,
     from: u32,
     to: u32,
 ) -> Result<LineBuilder, OutOfMemory>
@@ -125,7 +125,7 @@ fn found_end(
 /// The line of a route between two routers of a database.
 fn route_line(
     alloc: Global,
-    database: &Database,
+    database: &LsaDatabase,
     from: u32,
     to: u32,
 ) -> Result<Vec<u8>, OutOfMemory>

@@ -65,7 +65,7 @@ fn ranges(alloc: Global, problem: &Problem, cap: u16) -> Result<String, OutOfMem
 
 /// The restricted problem of these requests, where they are some in order.
 fn only(alloc: Global, problem: &Problem, members: &[u32]) -> Result<Option<Problem>, OutOfMemory> {
-    if !are_members(members, problem.paths.as_slice().len()) {
+    if !are_members(members, problem.requests.as_slice().len()) {
         return Ok(None);
     }
     Ok(Some(problem.only(alloc, members)?))
@@ -74,9 +74,9 @@ fn only(alloc: Global, problem: &Problem, members: &[u32]) -> Result<Option<Prob
 /// What is answered to a line that asks something of the problem at hand.
 fn called(alloc: Global, problem: &Problem, asked: &Command) -> Result<String, OutOfMemory> {
     match asked {
-        Command::Decide(cap, budget) => decide_text(alloc, problem, *cap, *budget),
-        Command::Told(cap, budget, count) => told_text(alloc, problem, *cap, *budget, *count),
-        Command::Least(budget) => least_text(alloc, problem, *budget),
+        Command::Decide(cap, case_limits) => decide_text(alloc, problem, *cap, *case_limits),
+        Command::Told(cap, case_limits, count) => told_text(alloc, problem, *cap, *case_limits, *count),
+        Command::Least(case_limits) => least_text(alloc, problem, *case_limits),
         Command::Show => problem_text(alloc, problem),
         Command::Ranges(cap) => ranges(alloc, problem, *cap),
         _ => Ok(String::from_str(alloc, "")?),

@@ -3,7 +3,7 @@ ghost use Rattle.std.specs.Prelude.{◌<◌, ◌≤◌, length, All};
 ghost use Rattle.cost_branching.specs.Pools.{IsRowPool};
 
 use crate::advisors::Counting;
-use crate::command::Budget;
+use crate::command::CaseLimits;
 use crate::conditions::are_below;
 use case_scripts::Line;
 use cost_base::{MemorySink, OutOfMemory};
@@ -20,9 +20,9 @@ use wide_fraction::{Limits, Top};
 const ROOM: usize = 4096;
 
 /// The budget and the width, where there are such.
-fn limits_of(budget: Budget) -> Option<Limits> {
-    let top = Top::new(budget.bits)?;
-    Limits::new(u64::from(budget.nodes), top)
+fn limits_of(case_limits: CaseLimits) -> Option<Limits> {
+    let top = Top::new(case_limits.bits)?;
+    Limits::new(u64::from(case_limits.nodes), top)
 }
 
 /// Rows, each on a line of its own.
@@ -122,9 +122,9 @@ pub(crate) fn decide_text(
     alloc: Global,
     problem: &Problem,
     cap: u16,
-    budget: Budget,
+    case_limits: CaseLimits,
 ) -> Result<String, OutOfMemory> {
-    let Some(limits) = limits_of(budget) else {
+    let Some(limits) = limits_of(case_limits) else {
         return Ok(String::from_str(alloc, ": no budget")?);
     };
     if !are_below(problem.low.as_slice(), cap) {
@@ -187,10 +187,10 @@ pub(crate) fn told_text(
     alloc: Global,
     problem: &Problem,
     cap: u16,
-    budget: Budget,
+    case_limits: CaseLimits,
     count: u32,
 ) -> Result<String, OutOfMemory> {
-    let Some(limits) = limits_of(budget) else {
+    let Some(limits) = limits_of(case_limits) else {
         return Ok(String::from_str(alloc, ": no budget")?);
     };
     let choices = choices(alloc, count)?;
@@ -216,9 +216,9 @@ fn text_of(alloc: Global, bytes: &[u8]) -> Result<String, OutOfMemory> {
 pub(crate) fn least_text(
     alloc: Global,
     problem: &Problem,
-    budget: Budget,
+    case_limits: CaseLimits,
 ) -> Result<String, OutOfMemory> {
-    let Some(limits) = limits_of(budget) else {
+    let Some(limits) = limits_of(case_limits) else {
         return Ok(String::from_str(alloc, ": no budget")?);
     };
     let mut advisors: Vec<Box<dyn Advisor>> = Vec::new(alloc);

@@ -20,7 +20,7 @@ struct Lists {
     vars: Listed<VarName>,
     low: Listed<u16>,
     high: Listed<u16>,
-    paths: Listed<Request>,
+    requests: Listed<Request>,
 }
 
 impl Lists {
@@ -30,7 +30,7 @@ impl Lists {
             vars: Listed::new(alloc),
             low: Listed::new(alloc),
             high: Listed::new(alloc),
-            paths: Listed::new(alloc),
+            requests: Listed::new(alloc),
         }
     }
 }
@@ -86,7 +86,7 @@ impl Draft {
 
     /// One more wanted path.
     pub(crate) fn add_path(&mut self, request: Request) -> Result<(), OutOfMemory> {
-        self.lists.paths.push(request)
+        self.lists.requests.push(request)
     }
 
     /// The problem that is said, where it is one.
@@ -121,20 +121,20 @@ fn graph_of(
 
 /// The problem of these parts, where they are those of one.
 fn problem_of(graph: Graph, lists: Lists) -> Option<Problem> {
-    if !is_problem(&graph, &lists.vars, &lists.low, &lists.high, &lists.paths) {
+    if !is_problem(&graph, &lists.vars, &lists.low, &lists.high, &lists.requests) {
         return None;
     }
     let Lists {
         vars,
         low,
         high,
-        paths,
+        requests,
     } = lists;
     Some(Problem {
         graph,
         vars,
         low,
         high,
-        paths,
+        requests,
     })
 }

@@ -128,6 +128,6 @@ pub(crate) fn problem_text(alloc: Global, problem: &Problem) -> Result<String, O
     let graph = GraphLines(&problem.graph);
     let free = FreeLines(problem.vars.as_slice());
     let ranges = Ranges(problem.low.as_slice(), problem.high.as_slice());
-    let paths = PathLines(problem.paths.as_slice());
-    Ok(format!(in alloc; ":{graph}{free}\n  ranges{ranges}{paths}")?)
+    let requests = PathLines(problem.requests.as_slice());
+    Ok(format!(in alloc; ":{graph}{free}\n  ranges{ranges}{requests}")?)
 }

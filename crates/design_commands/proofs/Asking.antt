@@ -7,7 +7,7 @@ use Rattle.design_problem.specs.Problems.{DesignProblem}
 use Rattle.design_problem.specs.Answers.{AnswerParts}
 use Rattle.design_problem.specs.declared.tree.Entry.{Entry}
 use Rattle.cut_advisors.specs.declared.candidate.Candidate.{Candidate}
-use Rattle.least_bound.specs.Asking.{IsAskedAnswering}
+use Rattle.least_bound.specs.AdvisorsAsked.{IsAskedAnswering}
 use Rattle.wide_fraction.specs.SearchLimits.{SearchLimits}
 use Rattle.input_files.specs.declared.stop.Stop.{Stop}
 use Rattle.input_files.specs.declared.stop.Stop.TheVariants as stops
@@ -15,7 +15,7 @@ use Rattle.input_files.specs.Readings.{Reading, End, Says, Faulty, Failed, EndsA
 use Rattle.input_files.specs.Stops.{IsReadAs, refusal_in}
 use Rattle.report_writer.specs.declared.report.Report.{Report}
 use Rattle.report_writer.specs.Reports.{ReportsAny, bytes_in}
-use Rattle.design_commands.specs.Asking.{AsksAt, IsMadeText}
+use Rattle.design_commands.specs.AdvisorsAsked.{AsksAt, IsMadeText}
 
 -- asked of the same problem, within the same limits
 pub same_asked : {A : Type 0} (IsItself : A → A → Type 0) (state : A → List ℕ) (would : A → List ℕ → List Candidate → ℕ)

@@ -14,7 +14,7 @@ use Rattle.input_files.proofs.Problems.{IsProblemOf}
 use Rattle.input_files.proofs.ReadyInputs.{ready_is}
 use Rattle.report_writer.specs.declared.report.Report.{Report}
 use Rattle.report_writer.specs.Reports.{Reports, bytes_in}
-use Rattle.design_commands.specs.Asking.{TellsAnswer}
+use Rattle.design_commands.specs.AdvisorsAsked.{TellsAnswer}
 use Rattle.design_commands.specs.Designs.{IsAnswerTo, verdict_status, MayDesign}
 use Rattle.design_commands.proofs.DesignedLaws.{answer_may}
 use Rattle.report_writer.proofs.ReportLaws.{may_report}

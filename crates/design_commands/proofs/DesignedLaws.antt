@@ -16,7 +16,7 @@ use Rattle.design_problem.specs.Problems.{DesignProblem, request_ends}
 use Rattle.design_problem.specs.Rows.{IsFit}
 use Rattle.design_problem.specs.Answers.{AnswerParts, CostLinesOf, IsValid}
 use Rattle.design_problem.specs.ProblemLaws.{GivesBest, IsTrueVerdict}
-use Rattle.design_problem.specs.Bounds.{IsCost, BoundsCosts}
+use Rattle.design_problem.specs.AnswerRanges.{IsCost, BoundsCosts}
 use Rattle.design_problem.specs.Text.{FitsCostLine, FitsCosts, text}
 use Rattle.design_problem.proofs.ProblemTrees.{valid_holds}
 use Rattle.evidence_text.specs.AnswerValues.{IsAnswerValue}
@@ -76,7 +76,7 @@ costs_back d a k bytes ready value gives prints =
 -- and make each wanted path the only cheapest there
 pub cheapest_back : (d : Input) (bytes w : List ℕ) → IsReadBack d bytes w → IsFit d.problem w → AreCheapestBack d bytes
 cheapest_back d bytes w back fit = λ n r within.
-    let request : Request = get_or d.problem.paths n r in
+    let request : Request = get_or d.problem.requests n r in
     subst (λ (g : Area). IsOnlyCheapest g (at_costs []) (request_ends request) request.path.edges) (sym back.graph)
     ((only_cheapest_with w d.problem.graph (request_ends request) request.path.edges).1 (fit.only n r within))
 

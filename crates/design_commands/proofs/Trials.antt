@@ -37,7 +37,7 @@ use Rattle.report_writer.specs.Reports.{Reports, ReportsAny, bytes_in}
 use Rattle.report_writer.specs.Texts.{refused_line}
 use Rattle.design_commands.specs.Designs.{IsAnswerTo, IsShownImpossible, IsShownUndecided, verdict_status}
 use Rattle.design_commands.specs.Trials.{MayTry, MayTryEnd, MayTrial, trial_end, trial_files, named_trial_texts, costless_line, summary_line, trial_limits, TellsTrial, trial_text}
-use Rattle.design_commands.specs.Asking.{AsksAt, IsMadeText}
+use Rattle.design_commands.specs.AdvisorsAsked.{AsksAt, IsMadeText}
 use Rattle.design_commands.proofs.Asking.{asked_of_report, asks_one, read_alone}
 use Rattle.design_commands.proofs.DesignedLaws.{gives_best, impossible_is, undecided_is}
 use Rattle.report_writer.proofs.ReportLaws.{may_report}

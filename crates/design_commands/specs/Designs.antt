@@ -25,7 +25,7 @@ pub record IsAnswerTo (limits : SearchLimits) (p : DesignProblem) (a : AnswerPar
 
 -- in the graph read back from a text each wanted path is the only cheapest of its request
 abbrev pub AreCheapestBack : Input → List ℕ → Type 0
-AreCheapestBack d text = All (λ r. IsOnlyCheapest (graph_back d text) (at_costs []) (request_ends r) r.path.edges) d.problem.paths
+AreCheapestBack d text = All (λ r. IsOnlyCheapest (graph_back d text) (at_costs []) (request_ends r) r.path.edges) d.problem.requests
 
 -- The bytes print costs that are what was asked for: they are the text of a valid answer; the configurations with their
 -- sections are accepted, and read back, the costs lie within the bounds and make each wanted path the only cheapest of
@@ -37,7 +37,7 @@ pub record IsDesigned (limits : SearchLimits) (d : Input) (bytes : List ℕ) : T
   pub value : IsAnswerValue answer
   pub valid : IsValid d.problem answer
   pub earnest : ProofIsPrinted d.problem limits.top limits.nodes answer.rows answer.proof
-  pub sheet : IsAnswerSheet d.problem answer.rows answer.proof answer.unfinished
+  pub sheet : IsAnswerSheet d.problem answer.rows answer.proof answer.undecided
   pub costs : List ℕ
   pub verdict : answer.verdict ≡ Optimal (greatest_cost costs)
   pub within : IsInBox (box_of d.problem) costs
@@ -53,12 +53,12 @@ pub record IsShownImpossible (limits : SearchLimits) (p : DesignProblem) (bytes 
   pub value : IsAnswerValue answer
   pub valid : IsValid p answer
   pub earnest : ProofIsPrinted p limits.top limits.nodes answer.rows answer.proof
-  pub sheet : IsAnswerSheet p answer.rows answer.proof answer.unfinished
+  pub sheet : IsAnswerSheet p answer.rows answer.proof answer.undecided
   pub verdict : answer.verdict ≡ Impossible
   pub none : HasNoFit p
 
 -- The bytes show that the budget was used up at a cap: they are the text of an answer with that verdict, whose
--- unfinished tree is earnest over the box at that cap, has an undone entry and exactly as many entries as the budget;
+-- undecided tree is earnest over the box at that cap, has an undone entry and exactly as many entries as the budget;
 -- its costs and its proof, where it has such, are true. Just the rows that its trees name are printed.
 pub record IsShownUndecided (limits : SearchLimits) (p : DesignProblem) (bytes : List ℕ) : Type 0 where
   pub answer : AnswerParts
@@ -68,7 +68,7 @@ pub record IsShownUndecided (limits : SearchLimits) (p : DesignProblem) (bytes :
   pub verdict : answer.verdict ≡ Undecided cap
   pub undecided : IsUndecided p limits.top limits.nodes cap answer
   pub earnest : ProofIsPrinted p limits.top limits.nodes answer.rows answer.proof
-  pub sheet : IsAnswerSheet p answer.rows answer.proof answer.unfinished
+  pub sheet : IsAnswerSheet p answer.rows answer.proof answer.undecided
 
 -- the status of a run that prints an answer with this verdict
 abbrev pub verdict_status : Verdict → Status

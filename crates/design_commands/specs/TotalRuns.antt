@@ -20,8 +20,8 @@ use Rattle.printed_rows.specs.FittingTexts.{FitText}
 use Rattle.least_total.specs.Results.{IsTotalAnswer, IsPrintedWithin, IsUndecidedTotal, IsTotalSheet}
 use Rattle.least_total.specs.declared.finding.Total.{Total}
 use Rattle.least_total.specs.declared.finding.Total.TheVariants.{Least, Undecided as TotalUndecided}
-use Rattle.least_total.specs.declared.finding.TotalProof.{TotalProof}
-use Rattle.least_total.specs.declared.finding.TotalProof.TheVariants.{Floor, Tree}
+use Rattle.least_total.specs.declared.finding.TotalEvidence.{TotalEvidence}
+use Rattle.least_total.specs.declared.finding.TotalEvidence.TheVariants.{Floor, Tree}
 use Rattle.report_writer.specs.declared.report.Report.{Report}
 use Rattle.report_writer.specs.Reports.{Reports}
 use Rattle.wide_fraction.specs.SearchLimits.{SearchLimits}
@@ -111,7 +111,7 @@ MayTotal limits d status bytes = ⊥
 -- What the room of the command finds.
 
 -- the lines of the evidence of a least total: `floor total`, or the rows and the tree at this cap
-abbrev pub shown_lines : ℕ → TotalProof → List (List ℕ)
+abbrev pub shown_lines : ℕ → TotalEvidence → List (List ℕ)
 shown_lines cap Floor = floor_lines
 shown_lines cap (Tree rows tree) = proof_lines rows.items (at_cap cap tree)
 
@@ -131,7 +131,7 @@ found_text cap (Least answer sum proof) = total_text (text answer) sum (shown_li
 found_text cap (TotalUndecided answer sum bound rows tree) = total_text (text answer) sum (bound_lines bound rows.items (at_cap cap tree))
 
 -- the rows and the tree that show a least total, at this cap, fit a text
-abbrev pub CanPrintProof : ℕ → TotalProof → Type 0
+abbrev pub CanPrintProof : ℕ → TotalEvidence → Type 0
 CanPrintProof cap Floor = Unit {0}
 CanPrintProof cap (Tree rows tree) = FitText row_line cap rows.items tree
 

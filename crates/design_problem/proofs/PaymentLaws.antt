@@ -15,7 +15,7 @@ use Rattle.area_graph.specs.declared.Price.{Price}
 use Rattle.area_graph.specs.declared.Price.TheVariants.{Fixed, Var, Zero}
 use Rattle.design_problem.specs.declared.balance.Balance.{Balance}
 use Rattle.design_problem.specs.declared.form.Term.{Term}
-use Rattle.design_problem.specs.declared.tally.Payment.{Payment}
+use Rattle.design_problem.specs.declared.payments.Payment.{Payment}
 use Rattle.design_problem.specs.Forms.{AreTerms, coefficient_of, form_by, term_of}
 use Rattle.design_problem.specs.Payments.{IsTurnedTo, balance_of, one_payment, payment_of, payments_of, times_paid, times_saved}
 use Rattle.design_problem.specs.Rows.{fixed_cost, form_between, is_var, uses}

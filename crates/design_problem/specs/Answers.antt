@@ -23,7 +23,7 @@ pub record AnswerParts : Type 0 where
   pub floor : Floor
   pub rows : List Row
   pub proof : Option CapTree
-  pub unfinished : Option CapTree
+  pub undecided : Option CapTree
 
 -- the cost lines name these free interfaces, each once, in order, and give each the cost of its variable
 abbrev pub CostLinesOf : List ℕ → List VarName → List CostLine → Type 0
@@ -67,7 +67,7 @@ ClaimHolds p rows _ _ _ _ = ⊥
 -- a valid answer to a problem
 pub record IsValid (p : DesignProblem) (a : AnswerParts) : Type 0 where
   pub rows : All (IsRow p) a.rows
-  pub finished : a.unfinished ≡ None
+  pub finished : a.undecided ≡ None
   pub claim : ClaimHolds p a.rows a.verdict a.costs a.floor a.proof
 
 -- the box of the problem at the cap of its greatest bound

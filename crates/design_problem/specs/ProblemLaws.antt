@@ -66,7 +66,7 @@ ValidAnswersHold = (p : DesignProblem) (a : AnswerParts) → IsProblem p → IsV
 -- how many entries a sound tree over a box has
 pub record HasFewEntries (box : CostBox) (tree : List Entry) : Type 0 where
   pub count : entry_count tree + 1 ≤ 2 * points box
-  pub unfinished : Contains tree Undone → entry_count tree + 2 ≤ 2 * points box
+  pub undecided : Contains tree Undone → entry_count tree + 2 ≤ 2 * points box
 
 -- a sound tree over a box has fewer entries than twice the box's whole points
 abbrev pub TreesAreSmall : Type 0
@@ -85,7 +85,7 @@ cut_count (Undone ∷ entries) = cut_count entries
 -- N
 pub record HasManyCuts (n : ℕ) (tree : List Entry) : Type 0 where
   pub count : entry_count tree ≤ 2 * n + 1 + (4 * n + 2) * cut_count tree
-  pub unfinished : Contains tree Undone → entry_count tree ≤ 2 * n + (4 * n + 2) * cut_count tree
+  pub undecided : Contains tree Undone → entry_count tree ≤ 2 * n + (4 * n + 2) * cut_count tree
 
 -- an earnest tree of a problem has many entries with two subtrees
 abbrev pub EarnestTreesCut : Type 0

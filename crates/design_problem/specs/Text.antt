@@ -136,9 +136,9 @@ members_words [] = []
 members_words (member ∷ members) = member_words member ++ members_words members
 
 -- the row numbers and multipliers of a Refute, one after another
-abbrev pub part_words : List (ℕ × ℕ) → List (List ℕ)
-part_words [] = []
-part_words (part ∷ parts) = decimal part.0 ∷ decimal part.1 ∷ part_words parts
+abbrev pub multiplier_words : List (ℕ × ℕ) → List (List ℕ)
+multiplier_words [] = []
+multiplier_words (part ∷ parts) = decimal part.0 ∷ decimal part.1 ∷ multiplier_words parts
 
 -- the line of an entry: `tighten`, `split`, `halve` or `refute` with its numbers, or `open`
 abbrev pub entry_line : Entry → List ℕ
@@ -146,7 +146,7 @@ entry_line (Tighten v side bound row) = spaced (codes "tighten" ∷ decimal v �
 entry_line (Split v bound) = spaced (codes "split" ∷ decimal v ∷ decimal bound ∷ [])
 entry_line (Halve v bound wide) =
     spaced (codes "halve" ∷ decimal v ∷ decimal bound ∷ step_word wide.step ∷ ratio_word wide.left ∷ ratio_word wide.right ∷ members_words wide.basis)
-entry_line (Refute parts) = spaced (codes "refute" ∷ part_words parts)
+entry_line (Refute parts) = spaced (codes "refute" ∷ multiplier_words parts)
 entry_line Undone = codes "open"
 
 -- the line of a part that has nothing: its word and `none`
@@ -166,14 +166,14 @@ tree_lines word (Some t) = tree_head word t.cap (length t.tree) ∷ map entry_li
 abbrev pub end_lines : List (List ℕ)
 end_lines = codes "wide none" ∷ codes "end" ∷ []
 
--- the lines of an answer's text: header, verdict, costs, floor, rows, proof, unfinished tree and end
+-- the lines of an answer's text: header, verdict, costs, floor, rows, proof, undecided tree and end
 abbrev pub answer_lines : AnswerParts → List (List ℕ)
 answer_lines a =
     head_lines a.verdict
     ++ costs_lines a.costs
     ++ (floor_line a.floor ∷ rows_lines a.rows)
     ++ tree_lines (codes "proof") a.proof
-    ++ tree_lines (codes "open") a.unfinished
+    ++ tree_lines (codes "open") a.undecided
     ++ end_lines
 
 -- the text of an answer: each of its lines with an LF
@@ -222,5 +222,5 @@ FitsCosts (Some costs) = All FitsCostLine costs.lines
 pub record FitsAnswer (a : AnswerParts) : Type 0 where
   pub costs : FitsCosts a.costs
   pub proof : FitsTree a.proof
-  pub unfinished : FitsTree a.unfinished
+  pub undecided : FitsTree a.undecided
   pub lines : All (λ line. length line ≤ 65536) (answer_lines a)

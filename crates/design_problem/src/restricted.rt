@@ -59,10 +59,10 @@ impl Problem {
     /// `OutOfMemory`.
     pub fn only(&self, alloc: Global, members: &[u32]) -> Result<Problem, OutOfMemory>
         requires rising { IsStrictlyIncreasing members.now }
-        requires known { All (λ m. m < length self.now.paths) members.now }
+        requires known { All (λ m. m < length self.now.requests) members.now }
         ensures { IfOk result (λ problem. problem ≡ restricted self.now members.now) }
     {
-        let paths = requests_of(alloc, self.paths.as_slice(), members)?;
+        let requests = requests_of(alloc, self.requests.as_slice(), members)?;
         let vars = copied_names(alloc, self.vars.as_slice())?;
         let low = self.low.copy(alloc)?;
         let high = self.high.copy(alloc)?;
@@ -72,7 +72,7 @@ impl Problem {
             vars: Listed::from_items(vars),
             low,
             high,
-            paths: Listed::from_items(paths),
+            requests: Listed::from_items(requests),
         })
     }
 }

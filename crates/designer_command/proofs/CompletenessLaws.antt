@@ -16,7 +16,7 @@ use Rattle.design_problem.specs.Problems.{DesignProblem}
 use Rattle.design_problem.specs.Rows.{AreBestCosts}
 use Rattle.design_problem.specs.ProblemLaws.{HasNoFit}
 use Rattle.sections_reader.proofs.SaidCosts.{said_once, said_read}
-use Rattle.least_bound.specs.Answered.{UnfinishedAt}
+use Rattle.least_bound.specs.Answered.{UndecidedAt}
 use Rattle.config_writer.specs.Rewriting.{first_missing}
 use Rattle.command_words.specs.Jobs.{JobRead}
 use Rattle.wide_fraction.specs.SearchLimits.{SearchLimits}
@@ -33,7 +33,7 @@ use Rattle.design_commands.specs.Designs.{IsDesigned, IsShownImpossible, IsShown
 use Rattle.design_commands.specs.Trials.{MayTry, MayTryEnd, trial_end, trial_limits}
 use Rattle.path_commands.specs.Audits.{MayAudit}
 use Rattle.designer_command.specs.Runs.{MayWrite, MayWriteAsking, OnFailure, RunMeets, Writes}
-use Rattle.designer_command.specs.Completeness.{CannotBeUndecided, DesignsAreAccepted, HeadedCostsAreWritten, IsRunSettled, TrialsAreDesigned, ValidAnswersAreAccepted, WellFormedInputIsAudited, WellFormedInputIsDesigned}
+use Rattle.designer_command.specs.Completeness.{IsSufficient, DesignsAreAccepted, HeadedCostsAreWritten, IsRunSettled, TrialsAreDesigned, ValidAnswersAreAccepted, WellFormedInputIsAudited, WellFormedInputIsDesigned}
 use Rattle.designer_command.proofs.OwnStatuses.{only_done, own_audit, own_check, own_design, own_end, own_rewrite, own_try, said_end}
 
 pub audited : WellFormedInputIsAudited
@@ -59,10 +59,10 @@ none_settles p none = record {
 }
 
 -- where the budget can't be used up, no text shows that it was
-pub never_undecided : (limits : SearchLimits) (p : DesignProblem) (bytes : List ℕ) → CannotBeUndecided limits p → IsShownUndecided limits p bytes → ⊥
-never_undecided limits p bytes never shown = by_tree shown.answer.unfinished shown.undecided.unfinished
+pub never_undecided : (limits : SearchLimits) (p : DesignProblem) (bytes : List ℕ) → IsSufficient limits p → IsShownUndecided limits p bytes → ⊥
+never_undecided limits p bytes never shown = by_tree shown.answer.undecided shown.undecided.undecided
   where
-    by_tree : (t : Option CapTree) → UnfinishedAt p limits.top limits.nodes shown.answer.rows shown.cap t → ⊥
+    by_tree : (t : Option CapTree) → UndecidedAt p limits.top limits.nodes shown.answer.rows shown.cap t → ⊥
     by_tree None h = h
     by_tree (Some t) h =
         never t.cap shown.answer.rows t.tree

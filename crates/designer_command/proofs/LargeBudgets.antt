@@ -15,7 +15,7 @@ use Rattle.design_problem.proofs.ProblemTrees.{le_greatest}
 use Rattle.design_problem.proofs.TreeShapes.{few_entries}
 use Rattle.printed_rows.proofs.CapBoxes.{capped_box}
 use Rattle.wide_fraction.specs.SearchLimits.{SearchLimits}
-use Rattle.conflict_core.proofs.LargeBudgets.{large_suffice as conflict_large}
+use Rattle.least_conflict.proofs.LargeBudgets.{large_suffice as conflict_large}
 use Rattle.spread_sets.proofs.PrintedSets.{large_suffice as spread_large}
 use Rattle.least_total.specs.Totals.{forms_within}
 use Rattle.least_total.proofs.RoundLaws.{lows_below}
@@ -29,7 +29,7 @@ use Rattle.input_files.specs.Outcomes.{Input, outcome}
 use Rattle.input_files.proofs.Readings.{said_unless, was_read}
 use Rattle.input_files.proofs.ReadyInputs.{came_whole, ready_is}
 use Rattle.path_commands.specs.SetFiles.{Sharing, sets_said, sets_read, spread_read}
-use Rattle.designer_command.specs.Completeness.{IsLarge, LargeBudgetIsEnough, LargeBudgetsSuffice}
+use Rattle.designer_command.specs.Completeness.{IsLarge, LargeBudgetIsSufficient, LargeBudgetsSuffice}
 
 product_le : (a b c d : ℕ) → a ≤ b → c ≤ d → a * c ≤ b * d
 product_le a b c d first second = omega (arith, mul-le-mul_right c first, mul-le-mul_left b second)
@@ -62,11 +62,11 @@ never_used_up : (limits : SearchLimits) (p : DesignProblem) (cap : ℕ) (forms :
     IsLarge limits p → All (λ low. low ≤ cap) p.low → IsSoundTree forms (capped (box_of p) cap) tree → Contains tree Undone →
     entry_count tree ≡ limits.nodes → ⊥
 never_used_up limits p cap forms tree kept large no_higher sound undone used_up =
-    let few = (few_entries (length p.low) forms (capped (box_of p) cap) tree (capped_box p cap kept no_higher) sound).unfinished undone in
+    let few = (few_entries (length p.low) forms (capped (box_of p) cap) tree (capped_box p cap kept no_higher) sound).undecided undone in
     omega (arith, few, large, used_up, capped-le p cap)
 
 -- for a problem a large budget is enough
-enough : (limits : SearchLimits) (p : DesignProblem) → IsProblem p → IsLarge limits p → LargeBudgetIsEnough limits p
+enough : (limits : SearchLimits) (p : DesignProblem) → IsProblem p → IsLarge limits p → LargeBudgetIsSufficient limits p
 enough limits p kept large = record {
   design = λ cap rows tree no_higher true_rows earnest undone used_up.
       never_used_up limits p cap (forms_of_rows p rows) tree kept large no_higher earnest.sound undone used_up;

@@ -20,8 +20,8 @@ rival_is_other g (Some r) es rival same = rival.1 same
 -- a rival row fails no test
 pub row_meets_none : (p : DesignProblem) (row : Row) → IsRow p row → NoneOf (row_tests p row)
 row_meets_none p row is_row = (
-  λ n failed. failed.1 (route_of_rival p.graph (slice_get p.paths row.request) row.rival is_row),
-  (λ n failed. rival_is_other p.graph (slice_get p.paths row.request) row.rival is_row failed.1, tt),
+  λ n failed. failed.1 (route_of_rival p.graph (slice_get p.requests row.request) row.rival is_row),
+  (λ n failed. rival_is_other p.graph (slice_get p.requests row.request) row.rival is_row failed.1, tt),
 )
 
 row_read : (rows : List Row) (k : ℕ) (row : Row) → k < length rows → row ≡ get_or rows k row → drop k rows ≡ row ∷ drop (k + 1) rows

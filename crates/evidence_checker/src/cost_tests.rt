@@ -105,12 +105,12 @@ fn check_paths(
     costs: &[u16],
 ) -> Result<(), Refusal<CheckFault, u64>>
     requires { IsInBox (box_of problem.now) costs.now }
-    ensures only { IfOk result (λ _. All (IsOnlyAt problem.now.graph costs.now) problem.now.paths) }
+    ensures only { IfOk result (λ _. All (IsOnlyAt problem.now.graph costs.now) problem.now.requests) }
     ensures first { IfErr result
         (StopsBy (AtFirst (check_fault_number NotOnlyCheapest) (IsNotOnly problem.now costs.now) ∷
         [])) }
 {
-    match first_not_only(alloc, &problem.graph, problem.paths.as_slice(), costs)? {
+    match first_not_only(alloc, &problem.graph, problem.requests.as_slice(), costs)? {
         Some(place) => Err(Refusal::at(place, CheckFault::NotOnlyCheapest)),
         None => Ok(()),
     }

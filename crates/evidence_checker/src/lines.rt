@@ -117,6 +117,6 @@ pub(crate) fn line_fault(
     if sound {
         None
     } else {
-        Some(CheckFault::WeakStep)
+        Some(CheckFault::UnsoundEntry)
     }
 }

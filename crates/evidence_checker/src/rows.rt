@@ -57,7 +57,7 @@ fn row_fault(alloc: Global, problem: &Problem, row: &Row) -> Result<Option<Check
     ensures { IfOk result (λ fault. MatchOption fault (IsRow problem.now row.now)
         (λ f. FirstOf (row_tests problem.now row.now) (check_fault_number f))) }
 {
-    match problem.paths.as_slice().get(row.request as usize) {
+    match problem.requests.as_slice().get(row.request as usize) {
         Some(request) => route_fault(alloc, &problem.graph, request, row.rival.as_slice()),
         None => Ok(Some(CheckFault::NotAPath)),
     }

@@ -88,7 +88,7 @@ pub ordered-one : (a : AnswerParts) → FitsCosts a.costs → All IsOneLine (ord
 ordered-one a fits =
     let trees : All IsOneLine (after_rows a) =
     All-append IsOneLine (tree_lines (codes "proof") a.proof) (after_proof a) (tree-one (codes "proof") a.proof (written (codes "proof") refl))
-    (All-append IsOneLine (tree_lines (codes "open") a.unfinished) end_lines (tree-one (codes "open") a.unfinished (written (codes "open") refl)) end-one) in
+    (All-append IsOneLine (tree_lines (codes "open") a.undecided) end_lines (tree-one (codes "open") a.undecided (written (codes "open") refl)) end-one) in
     let rows : All IsOneLine (after_floor a) =
     All-cons IsOneLine (rows_line (length a.rows)) (map row_line a.rows ++ after_rows a)
     (spaced-whole (codes "rows" ∷ decimal (length a.rows) ∷ []) (

@@ -22,7 +22,7 @@ use Rattle.design_problem.specs.declared.answer.Verdict.{Verdict}
 use Rattle.design_problem.specs.declared.answer.Verdict.TheVariants.{Optimal, Impossible, Undecided}
 use Rattle.design_problem.specs.declared.answer.Floor.{Floor}
 use Rattle.design_problem.specs.declared.answer.Floor.TheVariants.{Absent, Empty, Var}
-use Rattle.design_problem.specs.Text.{spaced, verdict_words, floor_word, row_line, side_word, step_word, integer, ratio_word, members_words, part_words, entry_line}
+use Rattle.design_problem.specs.Text.{spaced, verdict_words, floor_word, row_line, side_word, step_word, integer, ratio_word, members_words, multiplier_words, entry_line}
 use Rattle.text_lines.specs.Lines.{grow}
 use Rattle.text_lines.specs.Numbers.{split}
 use Rattle.text_lines.proofs.Printed.{decimal-digits, decimal_value-decimal}
@@ -212,11 +212,11 @@ parts_of [] = []
 parts_of (a ∷ []) = []
 parts_of (a ∷ b ∷ rest) = (decimal_value a, decimal_value b) ∷ parts_of rest
 
-parts-back : (ps : List (ℕ × ℕ)) → parts_of (part_words ps) ≡ ps
+parts-back : (ps : List (ℕ × ℕ)) → parts_of (multiplier_words ps) ≡ ps
 parts-back [] = refl
 parts-back (p ∷ ps) =
-    ap (λ x. (x, decimal_value (decimal p.1)) ∷ parts_of (part_words ps)) (decimal_value-decimal p.0)
-    ∙ ap (λ y. (p.0, y) ∷ parts_of (part_words ps)) (decimal_value-decimal p.1) ∙ ap (λ l. p ∷ l) (parts-back ps)
+    ap (λ x. (x, decimal_value (decimal p.1)) ∷ parts_of (multiplier_words ps)) (decimal_value-decimal p.0)
+    ∙ ap (λ y. (p.0, y) ∷ parts_of (multiplier_words ps)) (decimal_value-decimal p.1) ∙ ap (λ l. p ∷ l) (parts-back ps)
 
 abbrev wide_at : StepName → Ratio → Ratio → List Member → WideAt
 wide_at step left right basis = record { step = step; left = left; right = right; basis = basis }

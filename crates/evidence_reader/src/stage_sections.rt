@@ -5,7 +5,7 @@ ghost use Rattle.cost_base.specs.Words.{IsOneWord};
 ghost use Rattle.design_problem.specs.Text.{cost_lines, FitsCostLine, interface_line, answer_cost_line, router_line};
 ghost use Rattle.answer_lines.specs.declared.other_text.OtherText.{OtherText};
 ghost use Rattle.answer_lines.specs.Grammar.{TextPlace, IsRouterNext, AtSections, AtInterface, AtCost, AtExit};
-ghost use Rattle.design_problem.specs.Bounds.{IsCost};
+ghost use Rattle.design_problem.specs.AnswerRanges.{IsCost};
 ghost use Rattle.answer_lines.specs.Places.{LacksLawful};
 ghost use Rattle.evidence_reader.specs.Sections.{IsCostBegun, LacksCost};
 ghost use Rattle.evidence_reader.specs.Stops.{StopsReader};

@@ -3,7 +3,7 @@ use Rattle.std.proofs.Common.{◌≡◌, ℕ, ◌+◌, ◌<◌, ◌≤◌, List,
 use Rattle.std.proofs.lemmas.List.{at_drop_more}
 use Rattle.cost_base.specs.Decimal.{decimal}
 use Rattle.design_problem.specs.declared.tree.Member.{Member}
-use Rattle.design_problem.specs.Text.{member_words, members_words, part_words}
+use Rattle.design_problem.specs.Text.{member_words, members_words, multiplier_words}
 use Rattle.line_builder.specs.Words.{with_words}
 
 -- words in two groups
@@ -36,7 +36,7 @@ members_turn line members i d h =
 
 -- one more row with its multiplier
 pub parts_turn : (line : List ℕ) (parts : List (ℕ × ℕ)) (i : ℕ) (d : ℕ × ℕ) → i < length parts →
-    with_words line (part_words (drop i parts))
+    with_words line (multiplier_words (drop i parts))
     ≡ with_words ((line ++ 32 ∷ decimal (get_or parts i d).0) ++ 32 ∷ decimal (get_or parts i d).1)
-    (part_words (drop (i + 1) parts))
-parts_turn line parts i d h = at_drop_more (λ rest. with_words line (part_words rest)) parts i d h
+    (multiplier_words (drop (i + 1) parts))
+parts_turn line parts i d h = at_drop_more (λ rest. with_words line (multiplier_words rest)) parts i d h

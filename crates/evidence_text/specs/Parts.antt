@@ -2,12 +2,12 @@
 use Rattle.std.specs.Prelude.{ℕ, List, codes}
 use Rattle.design_problem.specs.Text.{none_line, tree_head}
 use Rattle.evidence_text.specs.declared.TreePart.{TreePart}
-use Rattle.evidence_text.specs.declared.TreePart.TheVariants.{Proof, Unfinished}
+use Rattle.evidence_text.specs.declared.TreePart.TheVariants.{Proof, Undecided}
 
 -- the word that a part with a tree begins with
 abbrev pub part_word : TreePart → List ℕ
 part_word Proof = codes "proof"
-part_word Unfinished = codes "open"
+part_word Undecided = codes "open"
 
 -- the line of a part that has no tree
 abbrev pub no_tree_line : TreePart → List ℕ

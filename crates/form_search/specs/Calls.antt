@@ -14,5 +14,5 @@ pub record AreInStep {Source : Type 0} (members : Ghosts Source) (source : Sourc
 pub record Leaves {Source : Type 0} (members : Ghosts Source) (WhereEnded : Type 0 → Type 0) (old new : Source)
     (old_forms new_forms : List Form) : Type 0 where
   pub grows : Grows (members.true_form old) old_forms new_forms
-  pub same : SameSource members.count members.accepted members.true_form members.candidates old new
+  pub same : SameSource members.count members.accepted members.true_form members.possible_forms old new
   pub lists : WhereEnded (members.in_step new new_forms)

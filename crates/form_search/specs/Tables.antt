@@ -12,13 +12,13 @@ use Rattle.fraction_table.specs.Tableaus.{IsGoing, wide_at}
 use Rattle.fraction_table.specs.declared.stage.SimplexStop.{SimplexStop}
 use Rattle.fraction_table.specs.declared.stage.SimplexStop.TheVariants.{TooWide as StepTooWide, OutOfMemory}
 use Rattle.exact_simplex.specs.Actives.{TableauState}
-use Rattle.form_search.specs.declared.table.HeldTableau.{HeldTableau}
-use Rattle.form_search.specs.declared.table.Least.{Least}
-use Rattle.form_search.specs.declared.table.Least.TheVariants.{Point as AtPoint, Refuted, Wide}
+use Rattle.form_search.specs.declared.held_tableau.HeldTableau.{HeldTableau}
+use Rattle.form_search.specs.declared.held_tableau.Least.{Least}
+use Rattle.form_search.specs.declared.held_tableau.Least.TheVariants.{Point as AtPoint, Refuted, Wide}
 use Rattle.form_search.specs.declared.relaxation.Relaxed.{Relaxed}
 use Rattle.form_search.specs.declared.relaxation.Relaxed.TheVariants.{Accepted, Refuted as NoneIsMet, Wide as TooWide}
 use Rattle.form_search.specs.Points.{IsLeastOf}
-use Rattle.form_search.specs.Turns.{HasNew}
+use Rattle.form_search.specs.NextEntries.{HasNew}
 
 -- A tableau in n variables that holds the first forms of the pool; where a step has stopped it, maybe one more than it
 -- counts.
@@ -53,7 +53,8 @@ pub record KeepsRows (old new : TableauState) : Type 0 where
   pub costs : new.costs ≡ old.costs
   pub rows : new.rows ≡ old.rows
 
--- so does one that is kept, with what it was started for
+-- a held tableau keeps its rows, how many forms it holds, and for which size of numbers and how many variables it was
+-- started
 pub record KeepsForms (old new : HeldTableau) : Type 0 where
   pub tableau : KeepsRows old.tableau new.tableau
   pub held : new.held ≡ old.held

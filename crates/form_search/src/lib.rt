@@ -6,15 +6,15 @@
 mod at_box;
 mod candidates;
 mod found;
-mod next_entry;
+mod desk;
 mod one_point;
-mod points;
+mod costs_of_points;
 mod pool;
 mod propagation;
 mod relaxation;
 mod searching;
 mod source;
-mod table;
+mod held_tableau;
 mod watch;
 
 pub use found::Found;

@@ -6,13 +6,13 @@ ghost use Rattle.design_problem.specs.Boxes.{greatest};
 ghost use Rattle.design_problem.specs.Forms.{form_at};
 ghost use Rattle.design_problem.specs.OpenPlaces.{first_place};
 ghost use Rattle.form_search.specs.Points.{IsCostsBox};
-ghost use Rattle.form_search.specs.Turns.{AreFormsOf, IsFormIn, IsNextRow, IsWatch};
+ghost use Rattle.form_search.specs.NextEntries.{AreFormsOf, IsFormIn, IsNextRow, IsWatch};
 
 use crate::FormPool;
 use crate::watch::Watch;
 use bound_propagation::tighten_within;
 use cost_base::OutOfMemory;
-use design_problem::{CostBox, Entry, Form, Parts, TreeBuilder, greatest_over};
+use design_problem::{CostBox, Entry, Form, Multipliers, TreeBuilder, greatest_over};
 use std::alloc::Global;
 
 /// The Refute by one form.
@@ -22,7 +22,7 @@ pub(crate) fn refute_by(alloc: Global, row: usize) -> Result<Entry, OutOfMemory>
     let mut parts = Vec::new(alloc);
     parts.push((row as u64, 1u128))?;
     Ok(Entry::Refute {
-        parts: Parts::from_items(parts),
+        parts: Multipliers::from_items(parts),
     })
 }
 

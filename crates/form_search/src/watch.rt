@@ -2,7 +2,7 @@
 ghost use Rattle.std.specs.Prelude.{◌≡◌, ℕ, ◌<◌, ◌≤◌, length, IfOk, IfSome};
 ghost use Rattle.std.specs.BinaryHeap.{heap_len};
 ghost use Rattle.design_problem.specs.OpenPlaces.{first_place};
-ghost use Rattle.form_search.specs.Turns.{IsWatch};
+ghost use Rattle.form_search.specs.NextEntries.{IsWatch};
 
 use cost_base::{OutOfMemory, filled_by, push_last};
 use design_problem::{CostBox, Entry, Form, TreeBuilder};
@@ -10,7 +10,7 @@ use std::alloc::Global;
 use std::cmp::Reverse;
 use std::collections::BinaryHeap;
 
-/// The forms of a pool that may say something about the box at work. A form that was looked at without a step leaves
+/// The forms of a pool that may say something about the box at work. A form that was looked at without an entry leaves
 /// them, and comes back where the range of one of its variables changes.
 #[derive(Drop)]
 pub(crate) struct Watch {
@@ -20,7 +20,7 @@ pub(crate) struct Watch {
     pending: Vec<bool>,
     /// The forms that may, the first one on top.
     waiting: BinaryHeap<Reverse<usize>>,
-    /// The forms whose step was barred at the box.
+    /// The forms whose entry was barred at the box.
     barred: Vec<usize>,
     /// The ranges as they were when they were compared last.
     low: Vec<u16>,
@@ -244,7 +244,7 @@ impl Watch {
         }
     }
 
-    /// The form that was looked at had a step, so it may have more.
+    /// The form that was looked at had an entry, so it may have more.
     pub(crate) fn keep(&mut self, row: usize) -> Result<(), OutOfMemory>
         ensures { (n : ℕ) → IsWatch n self.old → IsWatch n self.new }
     {

@@ -5,7 +5,7 @@ use Rattle.std.proofs.lemmas.Bool.{cases_lt}
 use Rattle.std.proofs.lemmas.Bool.Decides.{nat_tests}
 use Rattle.cost_base.proofs.ListLemmas.{each_append}
 use Rattle.whole_numbers.specs.Fractions.{Fraction, IsLowest}
-use Rattle.fraction_rows.specs.TableRows.{IsTableNumber, Rises, fraction_at, nothing}
+use Rattle.fraction_rows.specs.TableLines.{IsTableNumber, Rises, fraction_at, nothing}
 use Rattle.fraction_rows.specs.Entries.{AllNumbers, IsPutAtEnd, head_column, head_fraction, after_column, replaced}
 use Rattle.fraction_rows.proofs.ZeroFractions.{lowest_zero}
 

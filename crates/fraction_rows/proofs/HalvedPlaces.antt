@@ -4,7 +4,7 @@ use Rattle.std.specs.Prelude.{◌==◌, slice_set, slice_index_or}
 use Rattle.std.proofs.lemmas.List.{append_assoc, append-nil, length-append, take-append-drop}
 use Rattle.std.proofs.lemmas.List.Elements.{All-append, All-cons, All-head, All-nil, All-tail}
 use Rattle.whole_numbers.specs.Fractions.{Fraction}
-use Rattle.fraction_rows.specs.TableRows.{Rises, fraction_at, nothing}
+use Rattle.fraction_rows.specs.TableLines.{Rises, fraction_at, nothing}
 use Rattle.fraction_rows.specs.Entries.{IsHalfOf, IsPlaceOf, IsWithout, head_column, replaced}
 use Rattle.fraction_rows.proofs.Columns.{fraction_there, other_test, rises_from}
 

@@ -11,9 +11,9 @@ use Rattle.design_problem.specs.declared.tree.Member.{Member}
 use Rattle.design_problem.specs.Basis.{HasEntries, IsFormOf, entry}
 use Rattle.design_problem.specs.Steps.{IsPivot, IsTableStep}
 use Rattle.design_problem.specs.Steps.IsTableStep.{pivot_quotient, pivot_inverse, pivot_product, pivot_inverse_product, pivot_difference}
-use Rattle.fraction_rows.specs.TableRows.{AreTableNumbers, IsCrossStep, IsDivideStep, divided_without, nothing}
-use Rattle.fraction_rows.specs.TableRows.IsCrossStep.{product, difference}
-use Rattle.fraction_rows.specs.TableRows.IsDivideStep.{quotient}
+use Rattle.fraction_rows.specs.TableLines.{AreTableNumbers, IsCrossStep, IsDivideStep, divided_without, nothing}
+use Rattle.fraction_rows.specs.TableLines.IsCrossStep.{product, difference}
+use Rattle.fraction_rows.specs.TableLines.IsDivideStep.{quotient}
 use Rattle.fraction_rows.specs.Turns.{IsQuotientStepOf, IsTurnStep}
 use Rattle.fraction_rows.specs.Turns.IsQuotientStepOf.{dividing, inverting}
 use Rattle.fraction_rows.specs.Turns.IsTurnStep.{crossing, entering}

@@ -13,9 +13,9 @@ use Rattle.design_problem.specs.declared.tree.Member.{Member}
 use Rattle.design_problem.specs.declared.tree.Member.TheVariants.{Low, High, Row}
 use Rattle.design_problem.specs.Forms.{no_form}
 use Rattle.design_problem.specs.Basis.{IsFormOf, IsMixture, entry, forms_of, member_form}
-use Rattle.fraction_rows.specs.TableRows.{divided_without}
+use Rattle.fraction_rows.specs.TableLines.{divided_without}
 use Rattle.fraction_table.specs.Tableaus.{FitsBox}
-use Rattle.fraction_rows.specs.Turns.{AreTableRows, turned_by}
+use Rattle.fraction_rows.specs.Turns.{AreTableLines, turned_by}
 use Rattle.fraction_table.specs.ValidTables.{AllLong, IsTableauOf, Stand, low_forms, members_of_box, numbers_of_form}
 use Rattle.fraction_table.proofs.theory.Resolved.{resolved}
 use Rattle.fraction_table.proofs.theory.Blends.{form_mixture}
@@ -50,7 +50,7 @@ unfoldable pub whole_turned : (top : ℕ) (costs : CostBox) (rows : List Form) (
     (table : List (List Fraction)) (entering : Member) (es : List Fraction) (j a : ℕ)
     (w : IsTableauOf top costs rows basis table) →
     IsPivotOf top costs rows w.unboxed.common w.unboxed.lows entering es j a →
-    AreTableRows top (suc (length costs.low)) (map (turned_line es (suc j)) table) →
+    AreTableLines top (suc (length costs.low)) (map (turned_line es (suc j)) table) →
     IsTableauOf top costs rows (slice_set basis j entering) (map (turned_line es (suc j)) table)
 whole_turned top costs rows basis table entering es j a w p news =
     let n = length costs.low in

@@ -16,7 +16,7 @@ use Rattle.design_problem.specs.declared.tree.Member.TheVariants.{Low, High, Row
 use Rattle.design_problem.specs.Forms.{form_at, value_for_costs, weighted}
 use Rattle.design_problem.specs.Steps.{unless_zero}
 use Rattle.design_problem.proofs.Weighted.{value-weighted}
-use Rattle.fraction_table.specs.Multipliers.{Different, columns_numbered, numbered, whole_part}
+use Rattle.fraction_table.specs.Multipliers.{Different, columns_numbered, numbered, whole_multiplier}
 use Rattle.fraction_rows.proofs.Columns.{other_test, same_test}
 
 -- no member is the other
@@ -76,11 +76,11 @@ parts_different r q members qs own apart =
     (λ row is. columns_other row members qs (λ k k_in same. own k k_in (same ∙ sym is)))
     (columns_different members qs apart)
 
-whole_other : (L row : ℕ) (parts : List (ℕ × Fraction)) → AllByRecursion (λ p. p.0 ≢ row) parts → AllByRecursion (λ p. p.0 ≢ row) (map (whole_part L) parts)
+whole_other : (L row : ℕ) (parts : List (ℕ × Fraction)) → AllByRecursion (λ p. p.0 ≢ row) parts → AllByRecursion (λ p. p.0 ≢ row) (map (whole_multiplier L) parts)
 whole_other L row [] other = tt
 whole_other L row (part ∷ parts) other = (other.0, whole_other L row parts other.1)
 
-pub whole_different : (L : ℕ) (parts : List (ℕ × Fraction)) → Different parts → Different (map (whole_part L) parts)
+pub whole_different : (L : ℕ) (parts : List (ℕ × Fraction)) → Different parts → Different (map (whole_multiplier L) parts)
 whole_different L [] different = tt
 whole_different L (part ∷ parts) different = (whole_other L part.0 parts different.0, whole_different L parts different.1)
 

@@ -16,10 +16,10 @@ use Rattle.wide_fraction.specs.Widths.{IsTop}
 use Rattle.design_problem.specs.Steps.{denominators, lcm_of}
 use Rattle.fraction_table.specs.declared.stage.SimplexStop.TheVariants.{TooWide}
 use Rattle.fraction_rows.specs.Entries.{AllNumbers, IsPassing}
-use Rattle.fraction_table.specs.Multipliers.{IsMultiplierStep, IsTallyStep, IsWideMultiplier, common_of, fractions, whole_part, wholes}
+use Rattle.fraction_table.specs.Multipliers.{IsMultiplierStep, IsTallyStep, IsWideMultiplier, common_of, fractions, whole_multiplier, wholes}
 use Rattle.fraction_table.specs.Multipliers.IsMultiplierStep.{multiple, product}
 use Rattle.fraction_table.specs.Multipliers.IsTallyStep.{sum, scale}
-use Rattle.fraction_rows.specs.TableRows.{IsTableNumber}
+use Rattle.fraction_rows.specs.TableLines.{IsTableNumber}
 use Rattle.fraction_table.proofs.MultiplierColumns.{whole_from}
 use Rattle.fraction_rows.proofs.SmallNumbers.{top_small}
 
@@ -94,17 +94,17 @@ multiple_wide parts k d m z wide k_in m_is z_is wide_is =
 -- one more multiplier that is made whole
 pub made_next : (parts : List (ℕ × Fraction)) (k : ℕ) (d : ℕ × Fraction) (m : ℤ) (made news : List (ℕ × ℕ))
     (q : Fraction) → k < length parts → m ≡ pos (common_of parts) →
-    made ≡ map (whole_part (common_of parts)) (take k parts) → q ≡ times (slice_index_or parts k d).1 (whole m) →
+    made ≡ map (whole_multiplier (common_of parts)) (take k parts) → q ≡ times (slice_index_or parts k d).1 (whole m) →
     news ≡ made ++ ((slice_index_or parts k d).0, nat_abs q.numerator) ∷ [] →
-    news ≡ map (whole_part (common_of parts)) (take (k + 1) parts)
+    news ≡ map (whole_multiplier (common_of parts)) (take (k + 1) parts)
 made_next parts k d m made news q k_in m_is made_is q_is news_is =
     let L = common_of parts in
     let part = slice_index_or parts k d in
     news_is
     ∙ ap (λ (ps : List (ℕ × ℕ)). ps ++ (part.0, nat_abs q.numerator) ∷ []) made_is
-    ∙ ap (λ (p : Fraction). map (whole_part L) (take k parts) ++ (part.0, nat_abs p.numerator) ∷ []) (q_is ∙ ap (λ (x : ℤ). times part.1 (whole x)) m_is)
-    ∙ sym (map-append (whole_part L) (take k parts) (part ∷ []))
-    ∙ ap (map (whole_part L)) (sym (take_more parts k d k_in))
+    ∙ ap (λ (p : Fraction). map (whole_multiplier L) (take k parts) ++ (part.0, nat_abs p.numerator) ∷ []) (q_is ∙ ap (λ (x : ℤ). times part.1 (whole x)) m_is)
+    ∙ sym (map-append (whole_multiplier L) (take k parts) (part ∷ []))
+    ∙ ap (map (whole_multiplier L)) (sym (take_more parts k d k_in))
 
 -- what a push puts, by what was read of the parts
 pub part_put : (parts : List (ℕ × Fraction)) (k : ℕ) (d e : ℕ × Fraction) (olds news : List (ℕ × ℕ)) (size n : ℕ) →

@@ -9,8 +9,8 @@ use Rattle.whole_numbers.specs.Fractions.{Fraction, whole}
 use Rattle.wide_fraction.specs.Widths.{IsTop}
 use Rattle.design_problem.specs.declared.form.CostBox.{CostBox}
 use Rattle.design_problem.specs.Basis.{low_member, unit}
-use Rattle.fraction_rows.specs.TableRows.{AreTableNumbers, nothing}
-use Rattle.fraction_rows.specs.Turns.{AreTableRows}
+use Rattle.fraction_rows.specs.TableLines.{AreTableNumbers, nothing}
+use Rattle.fraction_rows.specs.Turns.{AreTableLines}
 use Rattle.fraction_table.specs.ValidTables.{high_member, members_of_box, starting_line}
 use Rattle.fraction_rows.proofs.Columns.{same_test, other_test}
 use Rattle.fraction_rows.proofs.FilledRows.{mapped_written}
@@ -18,11 +18,11 @@ use Rattle.fraction_rows.proofs.SmallNumbers.{whole_number}
 use Rattle.fraction_table.proofs.theory.Units.{high_value, low_value}
 
 pub rows_more : (top count : ℕ) (olds news : List (List Fraction)) (line : List Fraction) → news ≡ olds ++ line ∷ [] →
-    AreTableRows top count olds → length line ≡ count → AreTableNumbers top line → AreTableRows top count news
+    AreTableLines top count olds → length line ≡ count → AreTableNumbers top line → AreTableLines top count news
 rows_more top count olds news line news_are olds_fit counted numbers =
-    subst (AreTableRows top count) (sym news_are) (put olds olds_fit)
+    subst (AreTableLines top count) (sym news_are) (put olds olds_fit)
   where
-    put : (lines : List (List Fraction)) → AreTableRows top count lines → AreTableRows top count (lines ++ line ∷ [])
+    put : (lines : List (List Fraction)) → AreTableLines top count lines → AreTableLines top count (lines ++ line ∷ [])
     put [] fit = (counted, numbers, tt)
     put (first ∷ lines) fit = (fit.0, fit.1, put lines fit.2)
 

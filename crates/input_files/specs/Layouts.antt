@@ -34,6 +34,6 @@ layout_read names = area_read names >>= λ laid. lines_read names laid.asked lai
 
 -- the layout is that of what the files say
 pub record IsLayoutOf (layout : Layout) (laid : LaidOut) : Type 0 where
-  pub requests : layout.requests ≡ laid.asked
+  pub request_file : layout.request_file ≡ laid.asked
   pub configs : layout.configs.items ≡ routers_of laid.files
   pub lsdb : layout.lsdb ≡ laid.database

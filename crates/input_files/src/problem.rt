@@ -107,18 +107,18 @@ pub(crate) fn stop_of_resolution<'a>(
 fn resolve_in(
     alloc: Global,
     view: View,
-    requests: &RequestFile,
+    request_file: &RequestFile,
     lsdb: &Lsdb,
 ) -> Result<Problem, Refusal<ResolutionFault, ()>>
-    ensures made { IfOk result (λ p. (viewed_fault view requests.now lsdb.now ≡ None) ×
-        (p ≡ viewed_problem view requests.now lsdb.now)) }
+    ensures made { IfOk result (λ p. (viewed_fault view request_file.now lsdb.now ≡ None) ×
+        (p ≡ viewed_problem view request_file.now lsdb.now)) }
     ensures refused { IfErr result
-        (TellsResolution (viewed_fault view requests.now lsdb.now)) }
+        (TellsResolution (viewed_fault view request_file.now lsdb.now)) }
 {
     match view {
-        View::AsRequested => resolve(alloc, requests, lsdb),
-        View::BesidePresent => resolve_beside_present(alloc, requests, lsdb),
-        View::AtPresent => resolve_present(alloc, requests, lsdb),
+        View::AsRequested => resolve(alloc, request_file, lsdb),
+        View::BesidePresent => resolve_beside_present(alloc, request_file, lsdb),
+        View::AtPresent => resolve_present(alloc, request_file, lsdb),
     }
 }
 
@@ -126,15 +126,15 @@ fn resolve_in(
 pub(crate) fn resolution<'a>(
     alloc: Global,
     view: View,
-    requests: &RequestFile,
+    request_file: &RequestFile,
     lsdb: &Lsdb,
     words: FileWords<'a>,
 ) -> Result<Problem, Stop<'a>>
     ensures present { IfOk result (λ p. view ≡ View.AtPresent → p.low ≡ []) }
-    ensures read { IsReadAs (problem_read view (files_named words.entry) requests.now lsdb.now) []
+    ensures read { IsReadAs (problem_read view (files_named words.entry) request_file.now lsdb.now) []
         (λ p read. p ≡ read) result }
 {
-    match resolve_in(alloc, view, requests, lsdb) {
+    match resolve_in(alloc, view, request_file, lsdb) {
         Ok(problem) => Ok(problem),
         Err(refusal) => Err(stop_of_resolution(refusal, lsdb, words)),
     }
@@ -147,15 +147,15 @@ pub(crate) fn resolution<'a>(
 /// `Stop`: a line of the request file can't be resolved, or an interface has no cost; want of memory.
 pub fn resolution_at_present<'a>(
     alloc: Global,
-    requests: &RequestFile,
+    request_file: &RequestFile,
     lsdb: &Lsdb,
     words: FileWords<'a>,
 ) -> Result<Problem, Stop<'a>>
     ensures present { IfOk result (λ p. p.low ≡ []) }
-    ensures read { IsReadAs (problem_read View.AtPresent (files_named words.entry) requests.now
+    ensures read { IsReadAs (problem_read View.AtPresent (files_named words.entry) request_file.now
         lsdb.now) [] (λ p read. p ≡ read) result }
 {
-    resolution(alloc, View::AtPresent, requests, lsdb, words)
+    resolution(alloc, View::AtPresent, request_file, lsdb, words)
 }
 
 /// The problem that the files of words make.

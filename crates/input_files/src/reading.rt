@@ -9,7 +9,7 @@ ghost use Rattle.input_files.specs.Stops.{IsReadAs, file_stop};
 use crate::stop::{FileFault, Stop, said_or_stop, stop_of};
 use cost_base::{Refusal, Shelf, ShelfStop};
 use interface_model::RouterConfig;
-use request_reader::{RequestFile, read_requests};
+use request_reader::{RequestFile, read_request_file};
 use std::alloc::Global;
 use std::marker::Model;
 
@@ -72,7 +72,7 @@ pub(crate) fn read_request<'a, S: Shelf>(
         (λ r asked. r ≡ asked) result) }
 {
     let bytes = read_file(alloc, shelf, name, LONGEST_FILE)?;
-    said_or_stop(read_requests(alloc, &bytes), name)
+    said_or_stop(read_request_file(alloc, &bytes), name)
 }
 
 /// A configuration without a fault: its file's name, its bytes, and what it says. Contracts see the name and the bytes.

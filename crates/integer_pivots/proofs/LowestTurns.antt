@@ -17,7 +17,7 @@ use Rattle.whole_numbers.proofs.Ring.{var, num, ◌⊗◌, ring_by, using, nothi
 use Rattle.whole_numbers.proofs.Sizes.{positive_is, size_positive}
 use Rattle.integer_pivots.specs.declared.line.Line.{Line}
 use Rattle.integer_pivots.specs.declared.lowest.Lowest.{Lowest}
-use Rattle.integer_pivots.specs.declared.turn.Turn.{Turn}
+use Rattle.integer_pivots.specs.declared.turned_line.Turn.{Turn}
 use Rattle.integer_pivots.specs.Lines.{IsLine}
 use Rattle.integer_pivots.specs.Turns.{AreSmallAfter, IsLowestAfter, IsPartAfter, IsTurnedLine, turned_entry, turned_number}
 use Rattle.integer_pivots.proofs.LowestSteps.{after_other, after_own, line_denominator, line_number}

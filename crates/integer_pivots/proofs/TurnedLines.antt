@@ -18,7 +18,7 @@ use Rattle.whole_numbers.proofs.Orders.{opposite_product}
 use Rattle.whole_numbers.proofs.Ring.{var, num, ◌⊖◌, ◌⊗◌, ring_by, using, nothing}
 use Rattle.whole_numbers.proofs.Sizes.{positive_is, size_positive}
 use Rattle.integer_pivots.specs.declared.line.Line.{Line}
-use Rattle.integer_pivots.specs.declared.turn.Turn.{Turn}
+use Rattle.integer_pivots.specs.declared.turned_line.Turn.{Turn}
 use Rattle.integer_pivots.specs.Lines.{IsInLowestTerms}
 use Rattle.integer_pivots.specs.Numbers.{AllWithin, greatest_of}
 use Rattle.integer_pivots.specs.Turns.{IsAtPivot, IsTurnedOver, IsTurning, MayLineTurn, turn_at, turned_number}

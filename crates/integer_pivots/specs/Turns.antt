@@ -5,7 +5,7 @@ use Rattle.whole_numbers.specs.Fractions.{exact_quotient, gcd, lcm}
 use Rattle.whole_numbers.specs.Lists.{number_at}
 use Rattle.integer_pivots.specs.declared.line.Line.{Line}
 use Rattle.integer_pivots.specs.declared.lowest.Lowest.{Lowest}
-use Rattle.integer_pivots.specs.declared.turn.Turn.{Turn}
+use Rattle.integer_pivots.specs.declared.turned_line.Turn.{Turn}
 use Rattle.integer_pivots.specs.Lines.{IsLine, no_line}
 use Rattle.integer_pivots.specs.Numbers.{greatest_of}
 

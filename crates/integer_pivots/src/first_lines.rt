@@ -5,7 +5,7 @@ ghost use Rattle.integer_pivots.specs.UnitLines.{unit_line_of};
 
 use crate::line::Line;
 use crate::marked::MarkedNumbers;
-use crate::turn::Turn;
+use crate::turned_line::Turn;
 use cost_base::OutOfMemory;
 use std::alloc::Global;
 

@@ -14,7 +14,7 @@ mod marked;
 mod multiples;
 mod reciprocal;
 mod shares;
-mod turn;
+mod turned_line;
 mod uses;
 
 pub use bound_lines::{put_signed_line, step};
@@ -27,5 +27,5 @@ pub use lowest::Lowest;
 pub use marked::MarkedNumbers;
 pub use multiples::{clear, put_multiple};
 pub use shares::{denominator_times, share_in, stays_within};
-pub use turn::{Turn, common_multiple, put_touched, turn_of};
+pub use turned_line::{Turn, common_multiple, put_touched, turn_of};
 pub use uses::{Use, empty_uses, push_uses, put_uses, reserve_uses};

@@ -15,9 +15,9 @@ mod looking;
 mod naming;
 mod question;
 mod searching;
-mod standing;
+mod so_far;
 mod telling;
-mod turning;
+mod round;
 
 pub use change::{Change, Core, Cores, CoverTree, KeptTree};
 pub use core_covers::CoverEntry;

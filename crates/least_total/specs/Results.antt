@@ -14,8 +14,8 @@ use Rattle.cost_branching.specs.Pools.{Differ}
 use Rattle.printed_rows.specs.FittingTexts.{FitText}
 use Rattle.printed_rows.specs.PrintedTrees.{IsPrintedOver, IsUndecidedOver}
 use Rattle.printed_rows.specs.Sheets.{IsSheet}
-use Rattle.least_total.specs.declared.finding.TotalProof.{TotalProof}
-use Rattle.least_total.specs.declared.finding.TotalProof.TheVariants.{Floor, Tree}
+use Rattle.least_total.specs.declared.finding.TotalEvidence.{TotalEvidence}
+use Rattle.least_total.specs.declared.finding.TotalEvidence.TheVariants.{Floor, Tree}
 use Rattle.least_total.specs.declared.finding.Total.{Total}
 use Rattle.least_total.specs.declared.finding.Total.TheVariants.{Least, Undecided}
 use Rattle.least_total.specs.Totals.{HasLeastTotal, IsFormWithin, LeadsWithin, forms_within, total}
@@ -51,7 +51,7 @@ IsTotalSheet p rows tree = IsSheet (IsRow p) Differ 1 rows tree
 
 -- why no fit costs within the cap have a total below the least: that is the total of the lower bounds, or a closed tree
 -- over the box at the cap refutes the bound below it
-abbrev pub ShowsLeastTotal : DesignProblem → ℕ → ℕ → ℕ → ℕ → TotalProof → Type 0
+abbrev pub ShowsLeastTotal : DesignProblem → ℕ → ℕ → ℕ → ℕ → TotalEvidence → Type 0
 ShowsLeastTotal p top nodes cap least Floor = least ≡ total p.low
 ShowsLeastTotal p top nodes cap least (Tree rows tree) =
     (most : ℕ) × (most + 1 ≡ least) × IsTotalSheet p rows.items tree × IsPrintedWithin p top nodes cap most rows.items tree

@@ -15,7 +15,7 @@ use Rattle.least_total.specs.declared.rounds.Sought.{Sought}
 use Rattle.least_total.specs.declared.rounds.TotalTree.{TotalTree}
 use Rattle.least_total.specs.declared.rounds.Round.{Round}
 use Rattle.least_total.specs.declared.rounds.Round.TheVariants.{Costs, Refuted, Undecided}
-use Rattle.least_total.specs.declared.standing.Standing.{Standing}
+use Rattle.least_total.specs.declared.so_far.SoFar.{SoFar}
 use Rattle.least_total.specs.declared.finding.Narrowed.{Narrowed}
 use Rattle.least_total.specs.Totals.{LeadsWithin, total}
 use Rattle.least_total.specs.Bounded.{IsPlaceIn, forms_with_total}
@@ -65,7 +65,7 @@ IsKeptBelowTotal p top nodes cap least None = least ≡ total p.low
 IsKeptBelowTotal p top nodes cap least (Some t) = (most : ℕ) × (most + 1 ≡ least) × IsRefutedWithin p top nodes cap most t
 
 -- costs within the cap, their total, and what bounds the least total from below
-pub record IsStanding (p : DesignProblem) (top nodes cap : ℕ) (s : Standing) : Type 0 where
+pub record IsTotalSoFar (p : DesignProblem) (top nodes cap : ℕ) (s : SoFar) : Type 0 where
   pub fit : IsFitWithin p cap s.costs
   pub total_is : s.total ≡ total s.costs
   pub small : s.total < 2 ^ 26
@@ -74,12 +74,12 @@ pub record IsStanding (p : DesignProblem) (top nodes cap : ℕ) (s : Standing) :
   pub kept : IsKeptBelowTotal p top nodes cap s.least s.kept
 
 -- a bound between the ends at which the budget was used up, if there is one; where there is none, the ends are equal
-abbrev pub EndsAt : DesignProblem → ℕ → ℕ → ℕ → Standing → Option (ℕ × TotalTree) → Type 0
+abbrev pub EndsAt : DesignProblem → ℕ → ℕ → ℕ → SoFar → Option (ℕ × TotalTree) → Type 0
 EndsAt p top nodes cap s None = s.total ≤ s.least
 EndsAt p top nodes cap s (Some (most, t)) = (s.least ≤ most) × (most < s.total) × IsUndecidedWithin p top nodes cap most t
 
 -- what the rounds come to: costs within the cap, and bounds on the least total that are equal or that the budget left
 -- apart
 pub record IsNarrowed (p : DesignProblem) (top nodes cap : ℕ) (n : Narrowed) : Type 0 where
-  pub standing : IsStanding p top nodes cap n.standing
-  pub ends : EndsAt p top nodes cap n.standing n.open
+  pub so_far : IsTotalSoFar p top nodes cap n.so_far
+  pub ends : EndsAt p top nodes cap n.so_far n.undecided

@@ -49,7 +49,7 @@ impl<'a, B: Begun> Bounded<'a, B> {
         most: u32,
     ) -> Bounded<'a, B>
         requires problem { problem.now ≡ B.problem }
-        requires asker { IsAskerFor problem.now.graph problem.now.paths asker }
+        requires asker { IsAskerFor problem.now.graph problem.now.requests asker }
         requires begun { B.rows ≡ [] }
         requires small { most < 2 ^ 26 }
         ensures { result ≡ record {
@@ -117,7 +117,7 @@ impl<'a, B: Begun> Bounded<'a, B> {
 impl<'a, B: Begun> RowSource for Bounded<'a, B> {
     ghost use Rattle.std.specs.Prelude.{length};
     ghost use Rattle.least_total.specs.Totals.{LeadsWithin};
-    ghost use Rattle.least_total.specs.Bounded.{IsPoolWithTotal, IsTrueWithin, candidates_within};
+    ghost use Rattle.least_total.specs.Bounded.{IsPoolWithTotal, IsTrueWithin, possible_forms_within};
     ghost use Rattle.least_total.specs.BoundedLaws.{total_scale_is_free, total_forms_hold, total_forms_listed};
 
     ghost count = { λ s. length s.known.problem.low };
@@ -128,7 +128,7 @@ impl<'a, B: Begun> RowSource for Bounded<'a, B> {
 
     ghost in_step = { λ s forms. IsPoolWithTotal s forms };
 
-    ghost candidates = { λ s. candidates_within s.known.problem s.most };
+    ghost possible_forms = { λ s. possible_forms_within s.known.problem s.most };
 
     fn variables(&self) -> u32 {
         self.rivals.variables()

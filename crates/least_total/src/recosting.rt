@@ -57,7 +57,7 @@ pub(crate) fn recosted(
         floor,
         rows,
         proof,
-        unfinished,
+        undecided,
     } = answer;
     Ok(Answer {
         verdict,
@@ -65,6 +65,6 @@ pub(crate) fn recosted(
         floor,
         rows,
         proof,
-        unfinished,
+        undecided,
     })
 }

@@ -64,7 +64,7 @@ fn search_within<B: Begun>(
         costs.now) }
 {
     keeps_problem_on_graph(problem);
-    let asker = Asker::new(alloc, &problem.graph, problem.paths.as_slice())?;
+    let asker = Asker::new(alloc, &problem.graph, problem.requests.as_slice())?;
     let mut source = Bounded::<B>::new(alloc, problem, asker, most);
     let mut pool = FormPool::new(alloc);
     let mut advisors = Vec::new(alloc);

@@ -14,7 +14,7 @@ pub struct LiveLink {
     pub metric: u16,
 }
 
-/// Whether a link leads to a router or into a transit network.
+/// Whether a link leads to a router or into a transit subnet.
 fn is_area_link(link: &LsaLink) -> bool
     ensures { result ≡ definition.is_area_link link.now }
 {

@@ -12,7 +12,7 @@ use crate::links::{LiveLink, live_links};
 use crate::metrics::EndMetrics;
 use cost_base::{Listed, Name, OutOfMemory, push_if};
 use interface_model::RouterConfig;
-use lsa_bytes::{Database, Lsa};
+use lsa_bytes::{LsaDatabase, Lsa};
 use lsa_writer::{LinkEnd, ends_of};
 use lsdb_build::{Linked, Lsdb};
 use std::alloc::Global;
@@ -184,7 +184,7 @@ pub fn running_area(
     alloc: Global,
     configs: &[RouterConfig],
     lsdb: Lsdb,
-    live: &Database,
+    live: &LsaDatabase,
 ) -> Result<RunningArea, OutOfMemory>
     ensures costs { IfOk result (λ area. area.lsdb ≡ definition.with_live_costs configs.now live.now
         lsdb) }

@@ -8,7 +8,7 @@ use crate::LONGEST_DATABASE;
 use cost_base::Shelf;
 use input_files::{Stop, read_file, said_or_stop};
 use live_reader::read_live;
-use lsa_bytes::Database;
+use lsa_bytes::LsaDatabase;
 use std::alloc::Global;
 
 /// The LSAs of an area that count, as a live file says them: JSON as FRRouting prints it, or LSA bytes.
@@ -22,7 +22,7 @@ pub fn read_live_file<'a, S: Shelf>(
     shelf: &mut S,
     name: &'a str,
     area: u32,
-) -> Result<Database, Stop<'a>>
+) -> Result<LsaDatabase, Stop<'a>>
     ensures { Gave (S.gave shelf.old shelf.new) (λ came. IsReadAs (live_read name.now area) came
         (λ database lsas. database ≡ lsas) result) }
 {

@@ -7,7 +7,7 @@ ghost use Rattle.live_input.specs.LsaFiles.{lsas_read};
 use crate::LONGEST_DATABASE;
 use cost_base::Shelf;
 use input_files::{Stop, read_file, said_or_stop};
-use lsa_bytes::{Database, read_lsas};
+use lsa_bytes::{LsaDatabase, read_lsas};
 use std::alloc::Global;
 
 /// The LSAs of a file.
@@ -19,7 +19,7 @@ pub fn read_database<'a, S: Shelf>(
     alloc: Global,
     shelf: &mut S,
     name: &'a str,
-) -> Result<Database, Stop<'a>>
+) -> Result<LsaDatabase, Stop<'a>>
     ensures { Gave (S.gave shelf.old shelf.new) (λ came. IsReadAs (lsas_read name.now) came
         (λ database lsas. database ≡ lsas) result) }
 {

@@ -15,7 +15,7 @@ use crate::fields::number_16;
 use crate::instances::Instance;
 use crate::newest::Newest;
 use crate::reader::Reader;
-use crate::{Database, LsaFault};
+use crate::{LsaDatabase, LsaFault};
 use cost_base::{Refusal, push_some};
 use std::alloc::Global;
 
@@ -66,7 +66,7 @@ fn push_instances(
 ///
 /// `Refused` with the place of the first instance that counts and has a fault, and of its faults the first in the order
 /// `TooManyRouters`, `LsaTwice`, `ZeroMetric`. `OutOfMemory` where memory runs out.
-pub fn database_of(alloc: Global, instances: Vec<Instance>) -> Result<Database, Refusal<LsaFault>>
+pub fn database_of(alloc: Global, instances: Vec<Instance>) -> Result<LsaDatabase, Refusal<LsaFault>>
     requires { AreSmall instances.items (2 ^ 32 - 2) }
     ensures { MatchResult result (λ database. (fault_among instances.items ≡ None) ×
         (database ≡ lsas_of (those_that_count instances.items)))
@@ -79,7 +79,7 @@ pub fn database_of(alloc: Global, instances: Vec<Instance>) -> Result<Database, 
             reader = reader.with(instance.lsa, instance.stamp.place)?;
         }
     }
-    Ok(Database::from_items(reader.into_lsas()))
+    Ok(LsaDatabase::from_items(reader.into_lsas()))
 }
 
 /// The first refusal, where one comes behind instances: that of the first fault among them, or else that one.
@@ -109,7 +109,7 @@ fn first_refusal(
 /// `Refused` with the offset of the first faulty LSA, and of its faults the first in the order `ShortLsa`, `BadLength`,
 /// `BadBody`, `TooManyRouters`, `LsaTwice`, `ZeroMetric`, of which the last three are faults of what counts among the
 /// LSAs before the first that has one of the others. `OutOfMemory` where memory runs out.
-pub fn read_lsas(alloc: Global, bytes: &[u8]) -> Result<Database, Refusal<LsaFault>>
+pub fn read_lsas(alloc: Global, bytes: &[u8]) -> Result<LsaDatabase, Refusal<LsaFault>>
     requires { length bytes.now < 2 ^ 32 - 1 }
     ensures { MatchResult result (λ database. ComesTo bytes.now (Ok database)) (Refuses bytes.now) }
 {

@@ -2,7 +2,7 @@
 
 use crate::networks::{point, said};
 use area_graph::{
-    Graph, Path, Point, WantedPath, avoids, is_only_cheapest, is_path_of, is_simple, path_cost,
+    Graph, Path, Point, BorrowedRequest, avoids, is_only_cheapest, is_path_of, is_simple, path_cost,
     point_fits,
 };
 use case_scripts::{Written, next_number, next_numbers, next_word};
@@ -110,7 +110,7 @@ fn only_at(
     request: &Request,
     point: &Point,
 ) -> Result<String, OutOfMemory> {
-    let wanted = WantedPath {
+    let wanted = BorrowedRequest {
         path: &request.path,
         end: request.end,
         excluded: request.excluded.as_slice(),

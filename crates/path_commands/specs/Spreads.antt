@@ -33,10 +33,10 @@ front_lines verdict costs rows =
 
 -- the lines of the text of `spread`: each of its parts, of which those that aren't there say so, as in an answer
 abbrev pub spread_lines : List ℕ → Option Costs → List SetRow → Option CapTree → Option CapTree → List (List ℕ)
-spread_lines verdict costs rows proof unfinished =
+spread_lines verdict costs rows proof undecided =
     front_lines verdict costs rows
     ++ tree_lines (codes "proof") proof
-    ++ tree_lines (codes "open") unfinished
+    ++ tree_lines (codes "open") undecided
     ++ (codes "end" ∷ [])
 
 -- the lines of the text of `spread` on what was found; trees stand at the greatest bound

@@ -124,12 +124,12 @@ fn audit_in(
 ) -> Result<Vec<AuditedPath>, OutOfMemory>
     requires low { problem.now.low ≡ [] }
     requires room { IsRoomFor problem.now.graph room.old }
-    ensures { IfOk result (λ found. AllZip (IsAudited problem.now.graph) problem.now.paths
+    ensures { IfOk result (λ found. AllZip (IsAudited problem.now.graph) problem.now.requests
         found.items) }
 {
     let point = empty_point(alloc);
     let mut found = Vec::new(alloc);
-    for request in problem.paths.as_slice() {
+    for request in problem.requests.as_slice() {
         let path = audited(&problem.graph, request, &point, room);
         found.push(path)?;
     }
@@ -139,7 +139,7 @@ fn audit_in(
 /// What is found of the wanted paths of a problem without variables.
 fn audit(alloc: Global, problem: &Problem) -> Result<Vec<AuditedPath>, OutOfMemory>
     requires { problem.now.low ≡ [] }
-    ensures { IfOk result (λ found. AllZip (IsAudited problem.now.graph) problem.now.paths
+    ensures { IfOk result (λ found. AllZip (IsAudited problem.now.graph) problem.now.requests
         found.items) }
 {
     let mut room = Room::new(alloc, &problem.graph)?;

@@ -60,18 +60,18 @@ fn push_trees(
     alloc: Global,
     text: &mut Vec<u8>,
     proof: Option<&CapTree>,
-    unfinished: Option<&CapTree>,
+    undecided: Option<&CapTree>,
 ) -> Result<(), OutOfMemory>
     requires proof { AreShort (tree_lines (codes "proof") (option_copied proof)) }
-    requires unfinished { AreShort (tree_lines (codes "open") (option_copied unfinished)) }
+    requires undecided { AreShort (tree_lines (codes "open") (option_copied undecided)) }
     ensures { OnOk result
         (text.new.items ≡
         ((text.old.items ++ with_ends (tree_lines (codes "proof") (option_copied proof.entry))) ++
-        with_ends (tree_lines (codes "open") (option_copied unfinished.entry))) ++
+        with_ends (tree_lines (codes "open") (option_copied undecided.entry))) ++
         with_ends (codes "end" ∷ [])) }
 {
     push_tree(alloc, text, TreePart::Proof, proof)?;
-    push_tree(alloc, text, TreePart::Unfinished, unfinished)?;
+    push_tree(alloc, text, TreePart::Undecided, undecided)?;
     push_line(text, b"end")
 }
 

@@ -16,12 +16,12 @@ use request_reader::RequestFile;
 use wanted_paths::{Names, ResolutionFault};
 
 /// Whether a fixed link has no present cost, and there is no default.
-fn lacks_cost(requests: &RequestFile, link: &Linked, range: Range) -> bool
-    ensures { result ≡ lacks_cost requests.now link.now range }
+fn lacks_cost(request_file: &RequestFile, link: &Linked, range: Range) -> bool
+    ensures { result ≡ lacks_cost request_file.now link.now range }
 {
     match range {
         Range::Within(_, _) => false,
-        Range::AsItIs => match (link.cost, requests.default_cost) {
+        Range::AsItIs => match (link.cost, request_file.default_cost) {
             (None, None) => true,
             _ => false,
         },
@@ -40,16 +40,16 @@ fn range_in(ranges: &[Range], place: usize) -> Range
 
 /// The fault of the first fixed link without a cost, by the ranges of the links; one past them is fixed.
 fn first_lacking(
-    requests: &RequestFile,
+    request_file: &RequestFile,
     links: &[Linked],
     ranges: &[Range],
 ) -> Option<ResolutionFault>
     requires { length links.now ≤ 4000 }
-    ensures { (a : Asked) (d : Database) → a.default_cost ≡ requests.now.default_cost →
+    ensures { (a : Asked) (d : Database) → a.default_cost ≡ request_file.now.default_cost →
         HasRanges a d links.now ranges.now → result ≡ first_of (cost_faults a d 0 links.now) }
 {
     for (i, link) in links.iter().enumerate() {
-        if lacks_cost(requests, link, range_in(ranges, i)) {
+        if lacks_cost(request_file, link, range_in(ranges, i)) {
             return Some(ResolutionFault::NoCost { link: i as u32 });
         }
     }
@@ -57,20 +57,20 @@ fn first_lacking(
 }
 
 /// The fault of the first of some links without a present cost.
-fn first_at_present(requests: &RequestFile, links: &[Linked]) -> Option<ResolutionFault>
+fn first_at_present(request_file: &RequestFile, links: &[Linked]) -> Option<ResolutionFault>
     requires { length links.now ≤ 4000 }
-    ensures { (d : Database) → result ≡ first_of (cost_faults (present_asked requests.now) d 0
+    ensures { (d : Database) → result ≡ first_of (cost_faults (present_asked request_file.now) d 0
         links.now) }
 {
-    first_lacking(requests, links, &[])
+    first_lacking(request_file, links, &[])
 }
 
 /// The fault of an area's first link without a present cost: neither a cost line nor a default.
-pub fn first_without_cost(requests: &RequestFile, lsdb: &Lsdb) -> Option<ResolutionFault>
-    ensures { result ≡ first_of (cost_faults (present_asked requests.now) lsdb.now 0
+pub fn first_without_cost(request_file: &RequestFile, lsdb: &Lsdb) -> Option<ResolutionFault>
+    ensures { result ≡ first_of (cost_faults (present_asked request_file.now) lsdb.now 0
         lsdb.now.links) }
 {
-    first_at_present(requests, lsdb.links())
+    first_at_present(request_file, lsdb.links())
 }
 
 /// Refuses what has a fault.
@@ -93,19 +93,19 @@ pub fn check_costs(choices: &Choices) -> Result<(), Refusal<ResolutionFault, ()>
         (first_of (cost_faults choices.now.asked choices.now.database 0
         choices.now.database.links))) }
 {
-    refuse(first_lacking(choices.requests(), choices.links(), choices.ranges()))
+    refuse(first_lacking(choices.request_file(), choices.links(), choices.ranges()))
 }
 
 /// Whether each link has a cost; the first one that has none where one hasn't.
 pub fn check_present(
     names: &Names,
-    requests: &RequestFile,
+    request_file: &RequestFile,
 ) -> Result<(), Refusal<ResolutionFault, ()>>
-    ensures made { OnOk result (cost_faults (present_asked requests.now) names.now 0
+    ensures made { OnOk result (cost_faults (present_asked request_file.now) names.now 0
         names.now.links ≡ []) }
     ensures refused { IfErr result
         (TellsResolution
-        (first_of (cost_faults (present_asked requests.now) names.now 0 names.now.links))) }
+        (first_of (cost_faults (present_asked request_file.now) names.now 0 names.now.links))) }
 {
-    refuse(first_at_present(requests, names.links()))
+    refuse(first_at_present(request_file, names.links()))
 }

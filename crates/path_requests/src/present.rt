@@ -21,14 +21,14 @@ use wanted_paths::Names;
 fn present_prices(
     alloc: Global,
     names: &Names,
-    requests: &RequestFile,
+    request_file: &RequestFile,
 ) -> Result<Vec<Price>, OutOfMemory>
-    ensures { IfOk result (λ made. made.items ≡ map (λ link. Fixed (present_cost requests.now link))
+    ensures { IfOk result (λ made. made.items ≡ map (λ link. Fixed (present_cost request_file.now link))
         names.now.links) }
 {
     let mut made = Vec::new(alloc);
     for link in names.links() {
-        made.push(Price::Fixed(present_cost(requests, link)))?;
+        made.push(Price::Fixed(present_cost(request_file, link)))?;
     }
     Ok(made)
 }
@@ -37,25 +37,25 @@ fn present_prices(
 pub fn assemble_present(
     alloc: Global,
     names: &Names,
-    requests: &RequestFile,
-    paths: Vec<Request>,
+    request_file: &RequestFile,
+    requests: Vec<Request>,
 ) -> Result<Problem, OutOfMemory>
-    requires paths { paths.items ≡ filter_map (λ item. request_of names.now (outline names.now)
-        item.what) requests.now.items }
-    requires lines { line_faults names.now requests.now.items ≡ [] }
-    requires costs { cost_faults (present_asked requests.now) names.now 0 names.now.links ≡ [] }
-    ensures { IfOk result (λ problem. problem ≡ present_problem_of requests.now names.now) }
+    requires requests { requests.items ≡ filter_map (λ item. request_of names.now (outline names.now)
+        item.what) request_file.now.items }
+    requires lines { line_faults names.now request_file.now.items ≡ [] }
+    requires costs { cost_faults (present_asked request_file.now) names.now 0 names.now.links ≡ [] }
+    ensures { IfOk result (λ problem. problem ≡ present_problem_of request_file.now names.now) }
 {
     // For the prover: what the types of a request file and of an area keep is known once their parts are read.
-    let _lines = items(requests);
+    let _lines = items(request_file);
     let _links = names.links();
-    let prices = present_prices(alloc, names, requests)?;
+    let prices = present_prices(alloc, names, request_file)?;
     let graph = names.graph(alloc, prices.as_slice())?;
     Ok(Problem {
         graph,
         vars: Listed::from_items(Vec::new(alloc)),
         low: Listed::from_items(Vec::new(alloc)),
         high: Listed::from_items(Vec::new(alloc)),
-        paths: Listed::from_items(paths),
+        requests: Listed::from_items(requests),
     })
 }

@@ -20,10 +20,10 @@ use std::alloc::Global;
 
 /// The present cost of a link's interface; the default of the request file where it has none, and 0 where
 /// there is none.
-pub fn present_cost(requests: &RequestFile, link: &Linked) -> u16
-    ensures { result ≡ present_cost requests.now link.now }
+pub fn present_cost(request_file: &RequestFile, link: &Linked) -> u16
+    ensures { result ≡ present_cost request_file.now link.now }
 {
-    link.cost.unwrap_or(requests.default_cost.unwrap_or(0))
+    link.cost.unwrap_or(request_file.default_cost.unwrap_or(0))
 }
 
 /// Choices, and the links with a variable of their own in order, by which the variables are numbered.
@@ -59,7 +59,7 @@ impl<'a> Numbering<'a> {
     {
         match self.choices.range_of(number) {
             Range::Within(_, _) => Price::Var(self.variable_of(number, link)),
-            Range::AsItIs => Price::Fixed(present_cost(self.choices.requests(), link)),
+            Range::AsItIs => Price::Fixed(present_cost(self.choices.request_file(), link)),
         }
     }
 
@@ -124,7 +124,7 @@ impl<'a> Numbering<'a> {
             self.now.choices.now.database.links)) }
     {
         // For the prover: what the types of a request file and of an area keep is known once their parts are read.
-        let _requests = self.choices.requests();
+        let _request_file = self.choices.request_file();
         let _links = self.choices.links();
         let prices = self.prices(alloc)?;
         self.choices.names().graph(alloc, prices.as_slice())
@@ -136,12 +136,12 @@ pub fn assemble(
     alloc: Global,
     choices: &Choices,
     own: &[u32],
-    paths: Vec<Request>,
+    requests: Vec<Request>,
 ) -> Result<Problem, OutOfMemory>
     // The links that own a variable, at most 1,000, and the paths are those of the request file.
     requires few { length own.now ≤ 1000 }
     requires own { own.now ≡ owners choices.now.asked choices.now.database }
-    requires paths { paths.items ≡ filter_map (λ item. request_of choices.now.database
+    requires requests { requests.items ≡ filter_map (λ item. request_of choices.now.database
         (outline choices.now.database) item.what) choices.now.asked.items }
 
     // No line of the request file has a fault.
@@ -153,7 +153,7 @@ pub fn assemble(
     ensures { IfOk result (λ problem. problem ≡ problem_of choices.now.asked choices.now.database) }
 {
     // For the prover: what the types of a request file and of an area keep is known once their parts are read.
-    let _requests = choices.requests();
+    let _request_file = choices.request_file();
     let _links = choices.links();
     let numbering = Numbering { choices, own };
     let graph = numbering.priced_graph(alloc)?;
@@ -165,6 +165,6 @@ pub fn assemble(
         vars: Listed::from_items(vars),
         low: Listed::from_items(low),
         high: Listed::from_items(high),
-        paths: Listed::from_items(paths),
+        requests: Listed::from_items(requests),
     })
 }

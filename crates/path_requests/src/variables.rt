@@ -10,7 +10,7 @@ use crate::choices::Choices;
 use crate::ranges::{Range, same_range};
 use cost_base::{OutOfMemory, Refusal, push_if};
 use lsdb_build::Linked;
-use request_reader::{Directive, Item};
+use request_reader::{Directive, DirectiveLine};
 use std::alloc::Global;
 use wanted_paths::ResolutionFault;
 
@@ -197,7 +197,7 @@ fn ties_different(choices: &Choices, any: bool, directive: &Directive) -> bool
 }
 
 /// Whether no line makes a link symmetric whose ends differ; the first that does.
-pub fn check_ends(choices: &Choices, items: &[Item]) -> Result<(), Refusal<ResolutionFault, ()>>
+pub fn check_ends(choices: &Choices, items: &[DirectiveLine]) -> Result<(), Refusal<ResolutionFault, ()>>
     ensures made { OnOk result (ends_faults choices.now.asked choices.now.database items.now ≡ []) }
     ensures refused { IfErr result
         (TellsResolution

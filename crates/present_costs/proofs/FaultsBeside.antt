@@ -7,11 +7,11 @@ use Rattle.cost_base.specs.Lists.{first_of}
 use Rattle.cost_base.proofs.ListLemmas.{append-none, each_append}
 use Rattle.lsdb_build.specs.declared.Linked.{Linked}
 use Rattle.lsdb_build.specs.Graphs.{Database}
-use Rattle.request_reader.specs.declared.Part.{Part}
-use Rattle.request_reader.specs.declared.Part.TheVariants.{Router, Interface}
+use Rattle.request_reader.specs.declared.Excluded.{Excluded}
+use Rattle.request_reader.specs.declared.Excluded.TheVariants.{Router, Interface}
 use Rattle.request_reader.specs.declared.Directive.{Directive}
 use Rattle.request_reader.specs.declared.Directive.TheVariants.{FreeAll, Free, Fix, Path, SymmetricAll, Symmetric}
-use Rattle.request_reader.specs.declared.Item.{Item}
+use Rattle.request_reader.specs.declared.DirectiveLine.{DirectiveLine}
 use Rattle.request_reader.specs.WrittenRoutes.{Route}
 use Rattle.request_reader.specs.Asked.{Asked}
 use Rattle.request_reader.proofs.AskedRules.{none_first}
@@ -99,11 +99,11 @@ hop_others d line [] last = router_others d line last
 hop_others d line (hop ∷ hops) last =
     both_others (interface_faults d line hop.0 hop.1) (hop_faults d line hops last) (interface_others d line hop.0 hop.1) (hop_others d line hops last)
 
-parts_others : (d : Database) (line : ℕ) (parts : List Part) → AreOthers (parts_faults d line parts)
+parts_others : (d : Database) (line : ℕ) (parts : List Excluded) → AreOthers (parts_faults d line parts)
 parts_others d line [] = tt
 parts_others d line (part ∷ parts) = both_others (part_faults d line part) (parts_faults d line parts) (by_part part) (parts_others d line parts)
   where
-    by_part : (p : Part) → AreOthers (part_faults d line p)
+    by_part : (p : Excluded) → AreOthers (part_faults d line p)
     by_part (Router router) = router_others d line router
     by_part (Interface router interface) = interface_others d line router interface
 
@@ -113,7 +113,7 @@ broken_others d line number (hop ∷ hops) last =
     both_others (if leads_on d hop (next_name hops last) then [] else BrokenPath line number ∷ []) (broken_faults d line (number + 1) hops last)
     (unless_other (leads_on d hop (next_name hops last)) (BrokenPath line number) refl) (broken_others d line (number + 1) hops last)
 
-path_others : (d : Database) (line : ℕ) (route : Route) (parts : List Part) → AreOthers (walk_faults d line route ++ without_faults d line route parts)
+path_others : (d : Database) (line : ℕ) (route : Route) (parts : List Excluded) → AreOthers (walk_faults d line route ++ without_faults d line route parts)
 path_others d line route parts =
     let words = hop_faults d line route.hops route.last in
     let joins = broken_faults d line 1 route.hops route.last in
@@ -136,12 +136,12 @@ directive_others d line (Symmetric router interface) =
     both_others (interface_faults d line router interface) (fault_unless linked (NotALink line))
     (interface_others d line router interface) (unless_other linked (NotALink line) refl)
 
-line_others : (d : Database) (items : List Item) → AreOthers (line_faults d items)
+line_others : (d : Database) (items : List DirectiveLine) → AreOthers (line_faults d items)
 line_others d [] = tt
 line_others d (item ∷ items) =
     both_others (directive_faults d item.line item.what) (line_faults d items) (directive_others d item.line item.what) (line_others d items)
 
-ends_others : (a : Asked) (d : Database) (items : List Item) → AreOthers (ends_faults a d items)
+ends_others : (a : Asked) (d : Database) (items : List DirectiveLine) → AreOthers (ends_faults a d items)
 ends_others a d [] = tt
 ends_others a d (item ∷ items) =
     let well = not (ties_different a d item.what) in

@@ -16,15 +16,15 @@ use wanted_paths::ResolutionFault;
 /// The first fault beside present costs, where this is the first one of `resolve`: a fixed link without a cost gives
 /// way to the first link without one.
 fn fault_beside_present(
-    requests: &RequestFile,
+    request_file: &RequestFile,
     lsdb: &Lsdb,
     fault: ResolutionFault,
 ) -> ResolutionFault
-    requires { resolution_fault requests.now lsdb.now ≡ Some fault }
-    ensures { fault_beside_present requests.now lsdb.now ≡ Some result }
+    requires { resolution_fault request_file.now lsdb.now ≡ Some fault }
+    ensures { fault_beside_present request_file.now lsdb.now ≡ Some result }
 {
     match fault {
-        ResolutionFault::NoCost { .. } => match first_without_cost(requests, lsdb) {
+        ResolutionFault::NoCost { .. } => match first_without_cost(request_file, lsdb) {
             Some(first) => first,
             None => fault,
         },
@@ -34,15 +34,15 @@ fn fault_beside_present(
 
 /// What stops the resolution beside present costs, where this stops `resolve`.
 fn refusal_beside_present(
-    requests: &RequestFile,
+    request_file: &RequestFile,
     lsdb: &Lsdb,
     refusal: Refusal<ResolutionFault, ()>,
 ) -> Refusal<ResolutionFault, ()>
-    requires { TellsResolution (resolution_fault requests.now lsdb.now) refusal }
-    ensures { TellsResolution (fault_beside_present requests.now lsdb.now) result }
+    requires { TellsResolution (resolution_fault request_file.now lsdb.now) refusal }
+    ensures { TellsResolution (fault_beside_present request_file.now lsdb.now) result }
 {
     refusal.and_then(|fault, place| {
-        Refusal::at(place, fault_beside_present(requests, lsdb, fault))
+        Refusal::at(place, fault_beside_present(request_file, lsdb, fault))
     })
 }
 
@@ -57,18 +57,18 @@ fn refusal_beside_present(
 #[tactic(auto, using(crate::proofs::FaultsBeside::beside_resolved))]
 pub fn resolve_beside_present(
     alloc: Global,
-    requests: &RequestFile,
+    request_file: &RequestFile,
     lsdb: &Lsdb,
 ) -> Result<Problem, Refusal<ResolutionFault, ()>>
-    ensures made { IfOk result (λ p. (fault_beside_present requests.now lsdb.now ≡ None) ×
-        (p ≡ problem_of requests.now lsdb.now)) }
-    ensures refused { IfErr result (TellsResolution (fault_beside_present requests.now lsdb.now)) }
+    ensures made { IfOk result (λ p. (fault_beside_present request_file.now lsdb.now ≡ None) ×
+        (p ≡ problem_of request_file.now lsdb.now)) }
+    ensures refused { IfErr result (TellsResolution (fault_beside_present request_file.now lsdb.now)) }
 {
-    match resolve(alloc, requests, lsdb) {
-        Ok(problem) => match first_without_cost(requests, lsdb) {
+    match resolve(alloc, request_file, lsdb) {
+        Ok(problem) => match first_without_cost(request_file, lsdb) {
             None => Ok(problem),
             Some(fault) => Err(Refusal::at((), fault)),
         },
-        Err(refusal) => Err(refusal_beside_present(requests, lsdb, refusal)),
+        Err(refusal) => Err(refusal_beside_present(request_file, lsdb, refusal)),
     }
 }

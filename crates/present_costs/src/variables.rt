@@ -79,22 +79,22 @@ fn nothing_noted(alloc: Global, count: usize) -> Result<Vec<Noted>, OutOfMemory>
 /// What is noted of each variable after all links: one pass over them.
 fn noted_of_links(
     alloc: Global,
-    requests: &RequestFile,
+    request_file: &RequestFile,
     lsdb: &Lsdb,
     graph: &Graph,
     count: usize,
 ) -> Result<Vec<Noted>, OutOfMemory>
-    requires { graph.now ≡ (problem_of requests.now lsdb.now).graph }
+    requires { graph.now ≡ (problem_of request_file.now lsdb.now).graph }
     ensures { IfOk result
         (λ noted. noted.items ≡
-        map (λ k. noted_after Nothing (costs_of_variable requests.now lsdb.now k 0 lsdb.now.links))
+        map (λ k. noted_after Nothing (costs_of_variable request_file.now lsdb.now k 0 lsdb.now.links))
         (numbers_from 0 count)) }
 {
     let mut noted = nothing_noted(alloc, count)?;
     for (i, link) in lsdb.links().iter().enumerate() {
         note(
             price_of_link(graph, i as u32),
-            present_cost(requests, link),
+            present_cost(request_file, link),
             &mut noted,
         );
     }
@@ -145,14 +145,14 @@ fn costs_within(
 /// `OutOfMemory`.
 pub fn present_of_variables(
     alloc: Global,
-    requests: &RequestFile,
+    request_file: &RequestFile,
     lsdb: &Lsdb,
     problem: &Problem,
 ) -> Result<Vec<Option<u16>>, OutOfMemory>
-    requires { problem.now ≡ problem_of requests.now lsdb.now }
-    ensures { IfOk result (λ costs. costs.items ≡ present_of_variables requests.now lsdb.now) }
+    requires { problem.now ≡ problem_of request_file.now lsdb.now }
+    ensures { IfOk result (λ costs. costs.items ≡ present_of_variables request_file.now lsdb.now) }
 {
     let low = problem.low.as_slice();
-    let noted = noted_of_links(alloc, requests, lsdb, &problem.graph, low.len())?;
+    let noted = noted_of_links(alloc, request_file, lsdb, &problem.graph, low.len())?;
     costs_within(alloc, &noted, low, problem.high.as_slice())
 }

@@ -94,8 +94,8 @@ words_short request es few small count =
     let words = spaced-le (codes "row" ∷ decimal request ∷ map decimal es) in
     omega (arith, thing_digits request few, edges_room es small)
 
-route : (p : DesignProblem) (row : Row) → IsRow p row → IsRouteOf p.graph (slice_get p.paths row.request) row.rival
-route p row is_row = go (slice_get p.paths row.request) is_row
+route : (p : DesignProblem) (row : Row) → IsRow p row → IsRouteOf p.graph (slice_get p.requests row.request) row.rival
+route p row is_row = go (slice_get p.requests row.request) is_row
   where
     go : (r : Option Request) → IsRivalOf p.graph r row.rival → IsRouteOf p.graph r row.rival
     go None rival = absurd rival
@@ -103,10 +103,10 @@ route p row is_row = go (slice_get p.paths row.request) is_row
 
 row_short : (p : DesignProblem) (row : Row) → IsProblem p → FitsGraph p.graph → IsRow p row → IsTextLine (row_line row)
 row_short p row kept graph is_row =
-    let found = request_of_route p.graph p.paths row.request no_request row.rival (route p row is_row) in
-    let ends = request_ends (get_or p.paths row.request no_request) in
+    let found = request_of_route p.graph p.requests row.request no_request row.rival (route p row is_row) in
+    let ends = request_ends (get_or p.requests row.request no_request) in
     let known = path-known p.graph ends row.rival found.path in
-    words_short row.request row.rival (omega (arith, found.within, kept.path_count)) (λ k d k_in. let below =
+    words_short row.request row.rival (omega (arith, found.within, kept.request_count)) (λ k d k_in. let below =
     known k d k_in in omega (arith, graph.edge_count))
     (path_edges-le p.graph ends row.rival graph found.path)
 

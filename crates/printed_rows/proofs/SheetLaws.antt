@@ -12,7 +12,7 @@ use Rattle.design_problem.specs.declared.tree.Member.{Member}
 use Rattle.design_problem.specs.declared.tree.Member.TheVariants.{Low as ByLow, High as ByHigh, Row as ByRow}
 use Rattle.design_problem.specs.declared.tree.Entry.{Entry}
 use Rattle.design_problem.specs.declared.tree.Entry.TheVariants.{Tighten, Split, Halve, Refute, Undone}
-use Rattle.design_problem.specs.Renumbering.{renumbered, renumbered_member, renumbered_part}
+use Rattle.design_problem.specs.Renumbering.{renumbered, renumbered_member, renumbered_multiplier}
 use Rattle.printed_rows.specs.NamedRows.{NamesBelow, TreeNamesBelow, entries_in, is_row_named, member_names, names, part_names}
 use Rattle.printed_rows.specs.NewNumbers.{ArePrinted, HasNumbers, IsTreePrinted, kept_from, kept_rows, named_in, new_number}
 use Rattle.printed_rows.specs.Sheets.{IsSheet}
@@ -92,7 +92,7 @@ entry_anew f row (Split var value) is = is
 entry_anew f row (Halve var value wide) is =
     any_anew (member_names row) (member_names (f row)) (renumbered_member f) wide.basis (member_anew f row) is
 entry_anew f row (Refute parts) is =
-    any_anew (part_names row) (part_names (f row)) (renumbered_part f) parts (λ part. same_anew f part.0 row) is
+    any_anew (part_names row) (part_names (f row)) (renumbered_multiplier f) parts (λ part. same_anew f part.0 row) is
 entry_anew f row Undone is = is
 
 named_anew : (f : ℕ → ℕ) (row : ℕ) (entries : List Entry) → is_row_named entries row ≡ true → is_row_named (map (renumbered f) entries) (f row) ≡ true
@@ -128,9 +128,9 @@ tree_sheet IsTrueRow AreApart old rows tree new_tree true_rows once below printe
     (λ row is. is) true_rows once
 
 -- of what one of two trees names
-named_append : (proof unfinished : Option CapTree) (row : ℕ) →
-    is_row_named (entries_in proof ++ entries_in unfinished) row ≡ named_in proof unfinished row
-named_append proof unfinished row = list_any-append (names row) (entries_in proof) (entries_in unfinished)
+named_append : (proof undecided : Option CapTree) (row : ℕ) →
+    is_row_named (entries_in proof ++ entries_in undecided) row ≡ named_in proof undecided row
+named_append proof undecided row = list_any-append (names row) (entries_in proof) (entries_in undecided)
 
 if_any_below : (n : ℕ) (tree : Option CapTree) → TreeNamesBelow n tree → All (NamesBelow n) (entries_in tree)
 if_any_below n None below = All-nil (NamesBelow n)
@@ -142,35 +142,35 @@ if_any_anew f None (Some u) has = absurd has
 if_any_anew f (Some t) None has = absurd has
 if_any_anew f (Some t) (Some u) has = has.1
 
-both_copy : {R : Type 0} (old rows : List R) (proof unfinished new_proof new_unfinished : Option CapTree) →
-    TreeNamesBelow (length old) proof → TreeNamesBelow (length old) unfinished →
-    ArePrinted old proof unfinished rows new_proof new_unfinished →
-    IsCopy (named_in proof unfinished) old rows (entries_in proof ++ entries_in unfinished)
-    (entries_in new_proof ++ entries_in new_unfinished)
-both_copy old rows proof unfinished new_proof new_unfinished proof_below unfinished_below are =
-    let f = new_number (named_in proof unfinished) in
-    let entries = entries_in proof ++ entries_in unfinished in
+both_copy : {R : Type 0} (old rows : List R) (proof undecided new_proof new_undecided : Option CapTree) →
+    TreeNamesBelow (length old) proof → TreeNamesBelow (length old) undecided →
+    ArePrinted old proof undecided rows new_proof new_undecided →
+    IsCopy (named_in proof undecided) old rows (entries_in proof ++ entries_in undecided)
+    (entries_in new_proof ++ entries_in new_undecided)
+both_copy old rows proof undecided new_proof new_undecided proof_below undecided_below are =
+    let f = new_number (named_in proof undecided) in
+    let entries = entries_in proof ++ entries_in undecided in
     record {
       kept = are.kept;
-      copied = ap (λ (es : List Entry). es ++ entries_in new_unfinished) (if_any_anew f proof new_proof are.proof_is)
-          ∙ ap (λ (es : List Entry). map (renumbered f) (entries_in proof) ++ es) (if_any_anew f unfinished new_unfinished are.unfinished_is)
-          ∙ sym (map-append (renumbered f) (entries_in proof) (entries_in unfinished));
-      known = names_known (named_in proof unfinished) (length old) entries
-          (λ row is. sym (named_append proof unfinished row) ∙ is)
-          (All-append (NamesBelow (length old)) (entries_in proof) (entries_in unfinished)
-          (if_any_below (length old) proof proof_below) (if_any_below (length old) unfinished unfinished_below));
+      copied = ap (λ (es : List Entry). es ++ entries_in new_undecided) (if_any_anew f proof new_proof are.proof_is)
+          ∙ ap (λ (es : List Entry). map (renumbered f) (entries_in proof) ++ es) (if_any_anew f undecided new_undecided are.undecided_is)
+          ∙ sym (map-append (renumbered f) (entries_in proof) (entries_in undecided));
+      known = names_known (named_in proof undecided) (length old) entries
+          (λ row is. sym (named_append proof undecided row) ∙ is)
+          (All-append (NamesBelow (length old)) (entries_in proof) (entries_in undecided)
+          (if_any_below (length old) proof proof_below) (if_any_below (length old) undecided undecided_below));
     }
 
 pub trees_sheet : {R : Type 0} (IsTrueRow : R → Type 0) (AreApart : R → R → Type 0) (old rows : List R)
-    (proof unfinished new_proof new_unfinished : Option CapTree) → All IsTrueRow old → AllPairs AreApart old →
-    TreeNamesBelow (length old) proof → TreeNamesBelow (length old) unfinished →
-    ArePrinted old proof unfinished rows new_proof new_unfinished →
-    IsSheet IsTrueRow AreApart 0 rows (entries_in new_proof ++ entries_in new_unfinished)
-trees_sheet IsTrueRow AreApart old rows proof unfinished new_proof new_unfinished true_rows once proof_below unfinished_below are =
-    copy_sheet IsTrueRow AreApart (named_in proof unfinished) old rows (entries_in proof ++ entries_in unfinished)
-    (entries_in new_proof ++ entries_in new_unfinished)
-    (both_copy old rows proof unfinished new_proof new_unfinished proof_below unfinished_below are)
-    (λ row is. named_append proof unfinished row ∙ is) true_rows once
+    (proof undecided new_proof new_undecided : Option CapTree) → All IsTrueRow old → AllPairs AreApart old →
+    TreeNamesBelow (length old) proof → TreeNamesBelow (length old) undecided →
+    ArePrinted old proof undecided rows new_proof new_undecided →
+    IsSheet IsTrueRow AreApart 0 rows (entries_in new_proof ++ entries_in new_undecided)
+trees_sheet IsTrueRow AreApart old rows proof undecided new_proof new_undecided true_rows once proof_below undecided_below are =
+    copy_sheet IsTrueRow AreApart (named_in proof undecided) old rows (entries_in proof ++ entries_in undecided)
+    (entries_in new_proof ++ entries_in new_undecided)
+    (both_copy old rows proof undecided new_proof new_undecided proof_below undecided_below are)
+    (λ row is. named_append proof undecided row ∙ is) true_rows once
 
 -- a sheet's entries name none but its rows, where no form stands behind theirs
 pub sheet_names : {R : Type 0} (IsTrueRow : R → Type 0) (AreApart : R → R → Type 0) (rows : List R) (entries : List Entry) →

@@ -118,11 +118,11 @@ nothing_opened router (line ∷ ls) other =
 -- no section begins behind the costs
 last_section : (router : List ℕ) (a : AnswerParts) (behind : List (List ℕ)) → all_other behind ≡ true → section router (last_part a ++ behind) ≡ []
 last_section router a behind other =
-    ap (section router) (regrouped (floor_part a) (tree_lines (codes "proof") a.proof) (tree_lines (codes "open") a.unfinished) end_lines behind)
+    ap (section router) (regrouped (floor_part a) (tree_lines (codes "proof") a.proof) (tree_lines (codes "open") a.undecided) end_lines behind)
     ∙ others_section router (floor_part a)
-    (tree_lines (codes "proof") a.proof ++ (tree_lines (codes "open") a.unfinished ++ (end_lines ++ behind))) (other_rows a.rows)
-    ∙ others_section router (tree_lines (codes "proof") a.proof) (tree_lines (codes "open") a.unfinished ++ (end_lines ++ behind)) (other_proof a.proof)
-    ∙ others_section router (tree_lines (codes "open") a.unfinished) (end_lines ++ behind) (other_open a.unfinished)
+    (tree_lines (codes "proof") a.proof ++ (tree_lines (codes "open") a.undecided ++ (end_lines ++ behind))) (other_rows a.rows)
+    ∙ others_section router (tree_lines (codes "proof") a.proof) (tree_lines (codes "open") a.undecided ++ (end_lines ++ behind)) (other_proof a.proof)
+    ∙ others_section router (tree_lines (codes "open") a.undecided) (end_lines ++ behind) (other_open a.undecided)
     ∙ others_section router end_lines behind refl
     ∙ nothing_opened router behind other
   where

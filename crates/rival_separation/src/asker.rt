@@ -117,7 +117,7 @@ impl Asker {
     fn limit_at(&self, survey: &Survey<'_>, place: usize) -> u128
         requires asker { IsAskerFor survey.now.graph.now survey.now.requests.now self.now }
         requires fits { FitsPoint survey.now.graph.now survey.now.point.now }
-        requires paths { ArePathsOf survey.now.graph.now survey.now.requests.now }
+        requires requests { ArePathsOf survey.now.graph.now survey.now.requests.now }
         requires place { place < length self.now.order }
         ensures { lead_at survey.now.graph.now survey.now.point.now
             (request_seen survey.now self.now place) ≤ result }
@@ -145,7 +145,7 @@ impl Asker {
         // The asker is one for these requests, and the path of each is a simple path of it.
         requires asker { IsAskerFor survey.now.graph.now survey.now.requests.now self.old }
         requires fits { FitsPoint survey.now.graph.now survey.now.point.now }
-        requires paths { ArePathsOf survey.now.graph.now survey.now.requests.now }
+        requires requests { ArePathsOf survey.now.graph.now survey.now.requests.now }
         requires place { place < length self.old.order }
 
         // If it is told which distances the room has, it has them.
@@ -175,7 +175,7 @@ impl Asker {
         // The asker is one for these requests, and the path of each is a simple path of it.
         requires asker { IsAskerFor survey.now.graph.now survey.now.requests.now self.now }
         requires fits { FitsPoint survey.now.graph.now survey.now.point.now }
-        requires paths { ArePathsOf survey.now.graph.now survey.now.requests.now }
+        requires requests { ArePathsOf survey.now.graph.now survey.now.requests.now }
         requires place { place < length self.now.order }
 
         // The room has the distances up to what the request's path is compared with.
@@ -200,7 +200,7 @@ impl Asker {
         // The asker is one for these requests, and the path of each is a simple path of it.
         requires asker { IsAskerFor survey.now.graph.now survey.now.requests.now self.old }
         requires fits { FitsPoint survey.now.graph.now survey.now.point.now }
-        requires paths { ArePathsOf survey.now.graph.now survey.now.requests.now }
+        requires requests { ArePathsOf survey.now.graph.now survey.now.requests.now }
         requires place { place < length self.old.order }
 
         // The room has the distances that the request's path is compared by, and keeps them.
@@ -239,7 +239,7 @@ impl Asker {
     ) -> Result<Vec<Option<Listed<u32>>>, OutOfMemory>
         requires asker { IsAskerFor graph.now requests.now self.old }
         requires fits { FitsPoint graph.now point.now }
-        requires paths { ArePathsOf graph.now requests.now }
+        requires requests { ArePathsOf graph.now requests.now }
         ensures asker { IsAskerFor graph.now requests.now self.new }
         ensures rivals { IfOk result (λ rivals. AreCheapestRivals graph.now point.now requests.now
             rivals.items) }
@@ -265,7 +265,7 @@ impl Asker {
     pub fn each_leads(&mut self, graph: &Graph, requests: &[Request], point: &Point) -> bool
         requires asker { IsAskerFor graph.now requests.now self.old }
         requires fits { FitsPoint graph.now point.now }
-        requires paths { ArePathsOf graph.now requests.now }
+        requires requests { ArePathsOf graph.now requests.now }
         ensures asker { IsAskerFor graph.now requests.now self.new }
         ensures leads { IsTrue result ↔ All (RequestLeads graph.now point.now) requests.now }
     {

@@ -7,11 +7,11 @@ ghost use Rattle.fraction_table.specs.declared.stage.Stage.TheVariants.{Ended};
 use crate::command::{Command, read_command};
 use crate::scene::{Scene, scene_of};
 use crate::search::search_text;
-use crate::words::{Members, Multipliers, Values};
+use crate::words::{Members, MultiplierWords, Values};
 use area_graph::Point;
 use case_scripts::Step;
 use cost_base::Listed;
-use design_problem::{CostBox, Form, Parts};
+use design_problem::{CostBox, Form, Multipliers};
 use exact_simplex::Tableau;
 use fraction_table::{SimplexStop, Solved, is_box};
 use std::alloc::{AllocError, Global};
@@ -119,7 +119,7 @@ fn parts_text(
     alloc: Global,
     tableau: &Tableau,
     form: u64,
-    parts: &mut Parts,
+    parts: &mut Multipliers,
 ) -> Result<String, AllocError>
     requires { tableau.now.stage ≡ Ended (Refuted form) }
 {
@@ -130,7 +130,7 @@ fn parts_text(
         }
         Ok(()) => format!(in alloc;
             ": refuted at form {form}, multipliers{}",
-            Multipliers(parts.as_slice())
+            MultiplierWords(parts.as_slice())
         ),
     }
 }
@@ -139,7 +139,7 @@ fn parts_text(
 fn multipliers(alloc: Global, tableau: &Tableau, form: u64) -> Result<String, AllocError>
     requires { tableau.now.stage ≡ Ended (Refuted form) }
 {
-    let mut parts = Parts::from_items(Vec::new(alloc));
+    let mut parts = Multipliers::from_items(Vec::new(alloc));
     parts_text(alloc, tableau, form, &mut parts)
 }
 

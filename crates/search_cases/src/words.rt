@@ -19,9 +19,9 @@ impl<'a> fmt::Display for Members<'a> {
 
 /// The multipliers of rows.
 #[derive(Drop)]
-pub struct Multipliers<'a>(pub &'a [(u64, u128)]);
+pub struct MultiplierWords<'a>(pub &'a [(u64, u128)]);
 
-impl<'a> fmt::Display for Multipliers<'a> {
+impl<'a> fmt::Display for MultiplierWords<'a> {
     fn fmt<W: fmt::Write>(&self, f: &mut fmt::Formatter<W>) -> fmt::Result {
         for (row, multiplier) in self.0 {
             write!(f, "{}", Part(*row, *multiplier))?;

@@ -5,7 +5,7 @@
 mod costs;
 mod fault;
 mod heads;
-mod kinds;
+mod whose_text;
 pub mod laws;
 mod reader;
 mod unread;

@@ -123,14 +123,14 @@ right_all requests earlier members (n ∷ more) right lawful =
     (right_all requests earlier (members ++ n ∷ []) more (right_push requests earlier members n right parts.0) parts.1)
 
 -- the numbers of a lawful line, in rising order, are a set
-set_is : (p : DesignProblem) (earlier numbers set : List ℕ) → 2 ≤ length numbers → AreRight p.paths earlier numbers → IsInOrder numbers set → IsSetOf p set
+set_is : (p : DesignProblem) (earlier numbers set : List ℕ) → 2 ≤ length numbers → AreRight p.requests earlier numbers → IsInOrder numbers set → IsSetOf p set
 set_is p earlier numbers set several right order =
     let back = IsPermutation-sym numbers set order.same in
     record {
       several = let count = length_permutation numbers set order.same in omega (arith, count, several);
       rising = order.rising;
-      known = All-permutation (λ i. i < length p.paths) numbers set order.same right.known;
-      whole = All-permutation (λ i. (request_at p.paths i).excluded ≡ []) numbers set order.same right.whole;
+      known = All-permutation (λ i. i < length p.requests) numbers set order.same right.known;
+      whole = All-permutation (λ i. (request_at p.requests i).excluded ≡ []) numbers set order.same right.whole;
       ends = λ i j one two. right.ends i j (Contains-permutation set numbers i back one) (Contains-permutation set numbers j back two);
       different = λ i j one two. right.different i j (Contains-permutation set numbers i back one) (Contains-permutation set numbers j back two);
     }
@@ -161,11 +161,11 @@ members_marked earlier (m ∷ members) old new known are edges =
     (marks_more earlier m old edges here))
 
 pub sets_more : (p : DesignProblem) (sets : List (List ℕ)) (numbers set : List ℕ) (taken after : List Bool) →
-    KeepsSets p sets taken → 2 ≤ length numbers → is_wrong_set p.paths (concat sets) numbers ≡ false →
+    KeepsSets p sets taken → 2 ≤ length numbers → is_wrong_set p.requests (concat sets) numbers ≡ false →
     IsInOrder numbers set → AreEdgeMarks (concat sets ++ set) after → length after ≡ length taken →
     KeepsSets p (sets ++ set ∷ []) after
 sets_more p sets numbers set taken after kept several lawful order marks count =
-    let right = right_all p.paths (concat sets) [] numbers (right_none p.paths (concat sets)) lawful in
+    let right = right_all p.requests (concat sets) [] numbers (right_none p.requests (concat sets)) lawful in
     let back = IsPermutation-sym numbers set order.same in
     record {
       count = count ∙ kept.count;

@@ -15,7 +15,7 @@ use std::alloc::Global;
 use std::marker::Model;
 
 /// Room for the distances of a graph's vertices to a target, and for the edges of one path. Contracts see the distances
-/// of the last call, none of them known before it, a mark for each edge that it took away, and the edges of the path.
+/// of the last call, none of them known before it, a mark for each edge that it excluded, and the edges of the path.
 #[derive(Drop)]
 pub struct Room {
     far: u128,

@@ -17,7 +17,7 @@ use Rattle.spread_sets.specs.declared.spread.SetRow.{SetRow}
 use Rattle.spread_sets.specs.declared.spread.SetRow.TheVariants.{Outsider}
 use Rattle.spread_sets.specs.Spreads.{IsSetRow, SetRowsDiffer, Shares, SharesEach, edges_of, name_of_set, form_of_set_row}
 use Rattle.spread_sets.specs.MemberSets.{AreDistinctSets, AreMemberSets}
-use Rattle.spread_sets.specs.Sources.{IsPoolOfSets, IsOutsiderTooCheap, IsTrueOfSets, KnownSets, candidates_of, set_at, tie_rows}
+use Rattle.spread_sets.specs.Sources.{IsPoolOfSets, IsOutsiderTooCheap, IsTrueOfSets, KnownSets, possible_forms_of, set_at, tie_rows}
 use Rattle.spread_sets.specs.Asking.{AnswersSetsBelow, AreAllSetsAsked, AreSetsAsked, IsPassed, NoSetRow, OneSetRow}
 use Rattle.spread_sets.proofs.DistinctRows.{passed_differs, passed_more}
 use Rattle.spread_sets.proofs.Ties.{rows_met}
@@ -199,10 +199,10 @@ same_for P old new same_problem same_sets = (
 
 pub same_source : (old new : KnownSets) → new.problem ≡ old.problem → new.sets ≡ old.sets →
     SameSource (λ s. length s.problem.low) (λ s. SharesEach s.problem s.sets) (λ s. IsTrueOfSets s.problem s.sets)
-    (λ s. candidates_of s.problem) old new
+    (λ s. possible_forms_of s.problem) old new
 same_source old new same_problem same_sets = record {
   same_count = ap (λ (p : DesignProblem). length p.low) same_problem;
   same_points = λ point. same_for (λ p sets. SharesEach p sets point) old new same_problem same_sets;
   same_forms = λ form. same_for (λ p sets. IsTrueOfSets p sets form) old new same_problem same_sets;
-  same_candidates = ap candidates_of same_problem;
+  same_possible_forms = ap possible_forms_of same_problem;
 }

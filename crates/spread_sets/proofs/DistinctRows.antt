@@ -161,7 +161,7 @@ set_distinct p (set ∷ lines) path are = by_place (stands_in path set) (set_dis
 
 pub all_sets_distinct : (p : DesignProblem) (lines : List (List ℕ)) → AreSetsOf p lines → AreDistinctSets (all_sets p lines)
 all_sets_distinct p lines are =
-    let n = length p.paths in
+    let n = length p.requests in
     let kept = filter (is_first lines) (numbers_from 0 n) in
     let Named : ℕ → Type 0 = λ path. name_of_set (set_of lines path) ≡ path in
     let named : All Named kept = all_kept Named (is_first lines) 0 n (λ k from below is. eqb-true (name_of_set (set_of lines k)) k is) in

@@ -72,7 +72,7 @@ sought_is p sets top nodes box source pool sought same_problem same_sets in_step
 
 -- the sets that are made are the problem's
 pub made_sets : (p : DesignProblem) (lines : List (List ℕ)) (sets : List (List ℕ)) (count : ℕ) →
-    count ≡ length p.paths → sets ≡ sets_below lines count → sets ≡ all_sets p lines
+    count ≡ length p.requests → sets ≡ sets_below lines count → sets ≡ all_sets p lines
 made_sets p lines sets count all is = is ∙ ap (sets_below lines) all
 
 pub made_are : (p : DesignProblem) (lines sets : List (List ℕ)) → AreSetsOf p lines → sets ≡ all_sets p lines → AreMemberSets p sets

@@ -24,7 +24,7 @@ use Rattle.spread_sets.proofs.SetLaws.{listed_at}
 use Rattle.spread_sets.proofs.PrintedSets.{route_is}
 
 -- the first member is a wanted path, and its path is one of its request
-pub first_known : (p : DesignProblem) (set : List ℕ) → IsMemberSet p set → name_of_set set < length p.paths
+pub first_known : (p : DesignProblem) (set : List ℕ) → IsMemberSet p set → name_of_set set < length p.requests
 first_known p set is = member_known p set (name_of_set set) is (first_listed set is.some)
 
 pub tied_tree : (p : DesignProblem) (point : Point) (s : MemberSet) → IsProblem p → HasTree p s →
@@ -54,11 +54,11 @@ sets_kept p places sets ready = All-map (IsMemberSet p) (λ (s : MemberSet). s.m
 
 -- a member's path is a route of another one's request
 pub tie_route : (p : DesignProblem) (set : List ℕ) (first second : ℕ) → IsProblem p → IsMemberSet p set →
-    Contains set first → Contains set second → IsRouteOf p.graph (slice_get p.paths first) (edges_of p second)
+    Contains set first → Contains set second → IsRouteOf p.graph (slice_get p.requests first) (edges_of p second)
 tie_route p set first second kept is has_first has_second =
-    route_is p.graph p.paths first (edges_of p second) (member_known p set first is has_first)
+    route_is p.graph p.requests first (edges_of p second) (member_known p set first is has_first)
     (subst (λ (ends : Ends). IsPathOf p.graph ends (edges_of p second))
-    (sym (All-contains (λ i. request_ends (request_at p.paths i) ≡ ends_in p set) set first is.ends has_first))
+    (sym (All-contains (λ i. request_ends (request_at p.requests i) ≡ ends_in p set) set first is.ends has_first))
     (member_path p set second kept is has_second))
 
 -- members cost as much as the first one
@@ -76,17 +76,17 @@ not_tied p point set k first is inside other tied =
 
 -- it is a route of the first member's request
 pub cheap_route : (p : DesignProblem) (point : Point) (set es : List ℕ) (name : ℕ) → IsMemberSet p set →
-    IsOutsiderTooCheap p point set es → name ≡ name_of_set set → IsRouteOf p.graph (slice_get p.paths name) es
+    IsOutsiderTooCheap p point set es → name ≡ name_of_set set → IsRouteOf p.graph (slice_get p.requests name) es
 cheap_route p point set es name is cheap same =
-    subst (λ (k : ℕ). IsRouteOf p.graph (slice_get p.paths k) es) (sym same)
-    (route_is p.graph p.paths (name_of_set set) es (first_known p set is) cheap.outsider.path)
+    subst (λ (k : ℕ). IsRouteOf p.graph (slice_get p.requests k) es) (sym same)
+    (route_is p.graph p.requests (name_of_set set) es (first_known p set is) cheap.outsider.path)
 
 -- the form of a row of a request is that of an outsider of its path
-pub row_form : (p : DesignProblem) (row : Row) → IsRouteOf p.graph (slice_get p.paths row.request) row.rival →
+pub row_form : (p : DesignProblem) (row : Row) → IsRouteOf p.graph (slice_get p.requests row.request) row.rival →
     form_of_row p row ≡ form_of_set_row p (Outsider row.request row.rival)
 row_form p row route =
     ap (λ (es : List ℕ). form_between p.graph (length p.low) es row.rival)
-    (ap path_edges (request_of_route p.graph p.paths row.request no_request row.rival route).is_there)
+    (ap path_edges (request_of_route p.graph p.requests row.request no_request row.rival route).is_there)
 
 pub ready_all : (p : DesignProblem) (places count : ℕ) (sets : List MemberSet) → count ≡ places → All (HasTree p) sets →
     All (λ (set : MemberSet). length set.tree + 1 ≤ places) sets → All (HasTreeWithin p count) sets
@@ -108,7 +108,7 @@ room_new g h room same is =
 pub record IsOutsiderRow (p : DesignProblem) (point : Point) (set : List ℕ) (row : Row) : Type 0 where
   pub name : row.request ≡ name_of_set set
   pub cheap : IsOutsiderTooCheap p point set row.rival
-  pub route : IsRouteOf p.graph (slice_get p.paths row.request) row.rival
+  pub route : IsRouteOf p.graph (slice_get p.requests row.request) row.rival
 
 -- the row of an outsider that was found for a set
 pub found_row : (p : DesignProblem) (point : Point) (set es : List ℕ) (row : Row) → IsMemberSet p set →

@@ -30,13 +30,13 @@ IsSheetOfSets p sets rows tree = IsSheet (IsSetRow p sets) SetRowsDiffer 0 rows 
 
 -- Rows and a tree of them over the box at the greatest bound: they are a sheet, the tree is earnest, and both fit a
 -- text.
-pub record IsTreeOfSets (p : DesignProblem) (sets : List (List ℕ)) (top nodes : ℕ) (rows : List SetRow) (tree : List Entry) : Type 0 where
+pub record IsTreeOfSpreadSets (p : DesignProblem) (sets : List (List ℕ)) (top nodes : ℕ) (rows : List SetRow) (tree : List Entry) : Type 0 where
   pub sheet : IsSheetOfSets p sets rows tree
   pub printed : IsPrintedOver (SharesEach p sets) (IsFormOfSetRow p sets) top nodes (forms_of_set_rows p rows) (whole_box p) tree
   pub fits : FitText set_row_line (greatest_bound p) rows tree
 
 -- rows and a tree of them that used up the budget: it has an Undone and exactly N entries
-pub record IsUndecidedOfSets (p : DesignProblem) (sets : List (List ℕ)) (top nodes : ℕ) (rows : List SetRow) (tree : List Entry) : Type 0 where
+pub record IsUndecidedOfSpreadSets (p : DesignProblem) (sets : List (List ℕ)) (top nodes : ℕ) (rows : List SetRow) (tree : List Entry) : Type 0 where
   pub sheet : IsSheetOfSets p sets rows tree
   pub used_up : IsUndecidedOver (SharesEach p sets) (IsFormOfSetRow p sets) top nodes (forms_of_set_rows p rows) (whole_box p) tree
   pub fits : FitText set_row_line (greatest_bound p) rows tree
@@ -44,8 +44,8 @@ pub record IsUndecidedOfSets (p : DesignProblem) (sets : List (List ℕ)) (top n
 -- what is found of sets: spread-fit costs; a closed tree, and there are none; or a tree that used up the budget
 abbrev pub IsFoundOf : DesignProblem → List (List ℕ) → ℕ → ℕ → Spread → Type 0
 IsFoundOf p sets top nodes (Fit w) = IsSpreadFit p sets w
-IsFoundOf p sets top nodes (Impossible rows tree) = IsTreeOfSets p sets top nodes rows.items tree × IsClosed tree × HasNoSpread p sets
-IsFoundOf p sets top nodes (Undecided rows tree) = IsUndecidedOfSets p sets top nodes rows.items tree
+IsFoundOf p sets top nodes (Impossible rows tree) = IsTreeOfSpreadSets p sets top nodes rows.items tree × IsClosed tree × HasNoSpread p sets
+IsFoundOf p sets top nodes (Undecided rows tree) = IsUndecidedOfSpreadSets p sets top nodes rows.items tree
 
 -- what is answered of the sets of lines and the paths in no line
 abbrev pub IsSpreadFound : DesignProblem → List (List ℕ) → ℕ → ℕ → Spread → Type 0

@@ -39,7 +39,7 @@ members_seen s asker place = (member_set_at s.sets.now (slice_index asker.order 
 
 -- the request of the first member of a set
 abbrev pub first_request : DesignProblem → List ℕ → Request
-first_request p set = request_at p.paths (name_of_set set)
+first_request p set = request_at p.requests (name_of_set set)
 
 -- an outsider of a set that is too cheap, or None where the members share
 abbrev pub IsOutsiderIfAny : DesignProblem → Point → List ℕ → Option (List ℕ) → Type 0

@@ -16,14 +16,14 @@ use Rattle.design_problem.specs.Rows.{fixed_cost, form_between}
 use Rattle.design_problem.proofs.AtCosts.{value_at_costs}
 use Rattle.design_problem.proofs.FormBounds.{simple_form_small}
 use Rattle.form_search.specs.Sources.{IsTrueForm, scaled}
-use Rattle.cost_branching.specs.Candidates.{edge_lists}
+use Rattle.cost_branching.specs.PossibleForms.{edge_lists}
 use Rattle.cost_branching.specs.SourceLaws.{at_least, contains-map, multiple_divided, path_listed, scaled_cost, small_value, value_between}
 use Rattle.set_separation.specs.Outsiders.{IsOutsider}
 use Rattle.spread_sets.specs.declared.spread.SetRow.{SetRow}
 use Rattle.spread_sets.specs.declared.spread.SetRow.TheVariants.{Outsider, Same}
 use Rattle.spread_sets.specs.Spreads.{IsSetRow, Shares, SharesEach, cost_of_set, edges_of, ends_in, name_of_set, form_of_set_row, form_of_tie, paths_of}
 use Rattle.spread_sets.specs.MemberSets.{AreMemberSets, IsMemberSet}
-use Rattle.spread_sets.specs.Sources.{IsTrueOfSets, candidates_of, forms_of_pairs}
+use Rattle.spread_sets.specs.Sources.{IsTrueOfSets, possible_forms_of, forms_of_pairs}
 
 -- The paths of members.
 
@@ -33,15 +33,15 @@ first_listed [] some = absurd (omega arith)
 first_listed (i ∷ more) some = (0, omega arith, refl)
 
 -- a member is a wanted path
-pub member_known : (p : DesignProblem) (set : List ℕ) (i : ℕ) → IsMemberSet p set → Contains set i → i < length p.paths
-member_known p set i is has = All-contains (λ j. j < length p.paths) set i is.known has
+pub member_known : (p : DesignProblem) (set : List ℕ) (i : ℕ) → IsMemberSet p set → Contains set i → i < length p.requests
+member_known p set i is has = All-contains (λ j. j < length p.requests) set i is.known has
 
 -- a member's path is a simple path of the set's request
 pub member_path : (p : DesignProblem) (set : List ℕ) (i : ℕ) → IsProblem p → IsMemberSet p set → Contains set i →
     IsPathOf p.graph (ends_in p set) (edges_of p i)
 member_path p set i kept is has =
-    subst (λ (ends : Ends). IsPathOf p.graph ends (edges_of p i)) (All-contains (λ j. request_ends (request_at p.paths j) ≡ ends_in p set) set i is.ends has)
-    (kept.paths i no_request (member_known p set i is has))
+    subst (λ (ends : Ends). IsPathOf p.graph ends (edges_of p i)) (All-contains (λ j. request_ends (request_at p.requests j) ≡ ends_in p set) set i is.ends has)
+    (kept.requests i no_request (member_known p set i is has))
 
 -- what a member costs where the set shares
 pub member_cost : (p : DesignProblem) (point : Point) (set : List ℕ) (i : ℕ) → Shares p point set → Contains set i →
@@ -181,9 +181,9 @@ set_row_met p sets (Same name i j) point kept count is each = tie_met p sets is.
 -- Every true form stands in the list of the candidates.
 
 -- the form of a wanted path and a short list of edges is among those of all such pairs
-pair_listed : (p : DesignProblem) (form : List ℕ → List ℕ → Form) (paths : List Request) (k : ℕ) (es : List ℕ) →
-    k < length paths → Contains (edge_lists p) es →
-    Contains (forms_of_pairs p form paths) (form (request_at paths k).path.edges es)
+pair_listed : (p : DesignProblem) (form : List ℕ → List ℕ → Form) (requests : List Request) (k : ℕ) (es : List ℕ) →
+    k < length requests → Contains (edge_lists p) es →
+    Contains (forms_of_pairs p form requests) (form (request_at requests k).path.edges es)
 pair_listed p form [] k es known has = absurd (omega arith)
 pair_listed p form (r ∷ rs) zero es known has =
     Contains-append_left (map (form r.path.edges) (edge_lists p)) (forms_of_pairs p form rs) (form r.path.edges es)
@@ -194,29 +194,29 @@ pair_listed p form (r ∷ rs) (suc k) es known has =
 
 -- the form of each row of the sets is among the candidates
 row_listed : (p : DesignProblem) (sets : List (List ℕ)) (row : SetRow) → IsProblemOnGraph p → AreMemberSets p sets →
-    IsSetRow p sets row → Contains (candidates_of p) (form_of_set_row p row)
+    IsSetRow p sets row → Contains (possible_forms_of p) (form_of_set_row p row)
 row_listed p sets (Outsider name outsider) kept are is =
     let set = is.0 in
     let is_set = All-contains (IsMemberSet p) sets set are is.1.listed in
     let between = form_between p.graph (length p.low) in
-    let known : name < length p.paths =
-    subst (λ (k : ℕ). k < length p.paths) is.1.first
+    let known : name < length p.requests =
+    subst (λ (k : ℕ). k < length p.requests) is.1.first
     (member_known p set (name_of_set set) is_set (first_listed set is_set.some)) in
-    Contains-append_left (forms_of_pairs p between p.paths)
-    (forms_of_pairs p (form_of_tie p.graph (length p.low)) p.paths) (between (edges_of p name) outsider)
-    (pair_listed p between p.paths name outsider known (path_listed p (ends_in p set) outsider kept.graph is.2.path))
+    Contains-append_left (forms_of_pairs p between p.requests)
+    (forms_of_pairs p (form_of_tie p.graph (length p.low)) p.requests) (between (edges_of p name) outsider)
+    (pair_listed p between p.requests name outsider known (path_listed p (ends_in p set) outsider kept.graph is.2.path))
 row_listed p sets (Same name i j) kept are is =
     let set = is.0 in
     let is_set = All-contains (IsMemberSet p) sets set are is.1.listed in
     let tie = form_of_tie p.graph (length p.low) in
-    Contains-append_right (forms_of_pairs p (form_between p.graph (length p.low)) p.paths) (forms_of_pairs p tie p.paths) (tie (edges_of p i) (edges_of p j))
-    (pair_listed p tie p.paths i (edges_of p j) (member_known p set i is_set is.2)
+    Contains-append_right (forms_of_pairs p (form_between p.graph (length p.low)) p.requests) (forms_of_pairs p tie p.requests) (tie (edges_of p i) (edges_of p j))
+    (pair_listed p tie p.requests i (edges_of p j) (member_known p set i is_set is.2)
     (path_listed p (ends_in p set) (edges_of p j) kept.graph (member_path p set j kept.problem is_set is.3)))
 
 -- each true form is among the candidates
-pub set_forms_listed : (p : DesignProblem) (sets : List (List ℕ)) (form : Form) → IsTrueOfSets p sets form → Contains (candidates_of p) form
+pub set_forms_listed : (p : DesignProblem) (sets : List (List ℕ)) (form : Form) → IsTrueOfSets p sets form → Contains (possible_forms_of p) form
 set_forms_listed p sets form is =
-    subst (λ (f : Form). Contains (candidates_of p) f) is.of_row.same
+    subst (λ (f : Form). Contains (possible_forms_of p) f) is.of_row.same
     (row_listed p sets is.of_row.row is.kept is.are is.of_row.is_row)
 
 -- Sets that share at multiples of costs share at the costs.

@@ -10,7 +10,7 @@ use Rattle.design_problem.specs.Problems.{DesignProblem, IsProblemOnGraph}
 use Rattle.design_problem.specs.Rows.{form_between}
 use Rattle.form_search.specs.Finds.{IsSearchResult}
 use Rattle.form_search.specs.declared.found.Found.{Found}
-use Rattle.cost_branching.specs.Candidates.{edge_lists}
+use Rattle.cost_branching.specs.PossibleForms.{edge_lists}
 use Rattle.set_separation.specs.Outsiders.{CostAtLeast, IsOutsider}
 use Rattle.spread_sets.specs.declared.spread.SetRow.{SetRow}
 use Rattle.spread_sets.specs.declared.spread.SetRow.TheVariants.{Same}
@@ -77,8 +77,8 @@ forms_of_pairs p form [] = []
 forms_of_pairs p form (r ∷ rs) = map (form r.path.edges) (edge_lists p) ++ forms_of_pairs p form rs
 
 -- the forms that rows of sets can have
-abbrev pub candidates_of : DesignProblem → List Form
-candidates_of p = forms_of_pairs p (form_between p.graph (length p.low)) p.paths ++ forms_of_pairs p (form_of_tie p.graph (length p.low)) p.paths
+abbrev pub possible_forms_of : DesignProblem → List Form
+possible_forms_of p = forms_of_pairs p (form_between p.graph (length p.low)) p.requests ++ forms_of_pairs p (form_of_tie p.graph (length p.low)) p.requests
 
 -- what a search over a box found, by the forms of rows of the sets
 pub record IsSpreadSought (p : DesignProblem) (sets : List (List ℕ)) (top nodes : ℕ) (box : CostBox) (sought : Sought) : Type 0 where

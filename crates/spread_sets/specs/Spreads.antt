@@ -29,11 +29,11 @@ is_first lines path = name_of_set (set_of lines path) == path
 
 -- the sets of a problem, in rising order of their names: those of lines, and each path in no line by itself
 abbrev pub all_sets : DesignProblem → List (List ℕ) → List (List ℕ)
-all_sets p lines = map (set_of lines) (filter (is_first lines) (numbers_from 0 (length p.paths)))
+all_sets p lines = map (set_of lines) (filter (is_first lines) (numbers_from 0 (length p.requests)))
 
 -- the edges of a path
 abbrev pub edges_of : DesignProblem → ℕ → List ℕ
-edges_of p path = (request_at p.paths path).path.edges
+edges_of p path = (request_at p.requests path).path.edges
 
 -- the edges of each member of a set
 abbrev pub paths_of : DesignProblem → List ℕ → List (List ℕ)
@@ -41,7 +41,7 @@ paths_of p set = map (edges_of p) set
 
 -- the ends between which the members lead, and the excluded edges of their request
 abbrev pub ends_in : DesignProblem → List ℕ → Ends
-ends_in p set = request_ends (request_at p.paths (name_of_set set))
+ends_in p set = request_ends (request_at p.requests (name_of_set set))
 
 -- what the first member costs at a point
 abbrev pub cost_of_set : DesignProblem → Point → List ℕ → ℕ

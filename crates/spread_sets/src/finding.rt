@@ -14,7 +14,7 @@ use crate::member_sets::{MemberSet, all_sets, with_trees};
 use crate::source::{Begun, Spreads};
 use crate::spread::{SetRow, Spread};
 use cost_base::OutOfMemory;
-use cost_branching::path_count;
+use cost_branching::request_count;
 use design_problem::{CostBox, Problem, box_at, greatest_of, keeps_problem_on_graph};
 use form_search::{FormPool, Found, search};
 use printed_rows::{PrintedTree, printed};
@@ -159,7 +159,7 @@ pub fn find_spread(
     ensures { IfOk result (IsSpreadFound problem.now sets.now limits.now.top limits.now.nodes) }
 {
     keeps_problem_on_graph(problem);
-    let all = all_sets(alloc, sets.as_slice(), path_count(problem))?;
+    let all = all_sets(alloc, sets.as_slice(), request_count(problem))?;
     let grown = with_trees(alloc, problem, all)?;
     let cap = greatest_of(problem.high.as_slice());
     let costs = box_at(alloc, problem, cap)?;

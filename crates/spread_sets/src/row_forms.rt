@@ -26,8 +26,8 @@ pub(crate) fn form_of_tie(
     first: u32,
     second: u32,
 ) -> Result<Form, OutOfMemory>
-    requires second { second < length problem.now.paths }
-    requires same_ends { IsRouteOf problem.now.graph (slice_get problem.now.paths first)
+    requires second { second < length problem.now.requests }
+    requires same_ends { IsRouteOf problem.now.graph (slice_get problem.now.requests first)
         (edges_of problem.now second) }
     ensures { IfOk result (λ form. form ≡ form_of_tie problem.now.graph (length problem.now.low)
         (edges_of problem.now first) (edges_of problem.now second)) }

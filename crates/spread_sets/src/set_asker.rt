@@ -57,7 +57,7 @@ impl Model for SetAsker {
 fn request_if_any<'a>(problem: &'a Problem, set: Option<&MemberSet>) -> Option<&'a Request> {
     match set {
         Some(set) => problem
-            .paths
+            .requests
             .as_slice()
             .get(first_of(set.members.as_slice()) as usize),
         None => None,
@@ -83,7 +83,7 @@ fn request_in<'a>(problem: &'a Problem, set: &MemberSet) -> &'a Request
 /// What a wanted path costs at a point.
 fn cost_of(problem: &Problem, path: u32, point: &Point) -> u128
     requires point { IsCostPoint (length problem.now.low) point.now }
-    requires path { path < length problem.now.paths }
+    requires path { path < length problem.now.requests }
     ensures { result ≡ cost problem.now.graph point.now (edges_of problem.now path) }
 {
     keeps_problem_on_graph(problem);
@@ -94,7 +94,7 @@ fn cost_of(problem: &Problem, path: u32, point: &Point) -> u128
 fn cost_the_same(problem: &Problem, members: &[u32], point: &Point) -> bool
     requires point { IsCostPoint (length problem.now.low) point.now }
     requires some { 0 < length members.now }
-    requires members { All (λ path. path < length problem.now.paths) members.now }
+    requires members { All (λ path. path < length problem.now.requests) members.now }
     ensures { MatchBool result (AreTied problem.now point.now members.now)
         (AreTied problem.now point.now members.now → ⊥) }
 {

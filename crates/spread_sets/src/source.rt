@@ -386,7 +386,7 @@ impl<'a, B: Begun> Spreads<'a, B> {
 impl<'a, B: Begun> RowSource for Spreads<'a, B> {
     ghost use Rattle.std.specs.Prelude.{length};
     ghost use Rattle.spread_sets.specs.Spreads.{SharesEach};
-    ghost use Rattle.spread_sets.specs.Sources.{IsPoolOfSets, IsTrueOfSets, candidates_of};
+    ghost use Rattle.spread_sets.specs.Sources.{IsPoolOfSets, IsTrueOfSets, possible_forms_of};
     ghost use Rattle.spread_sets.specs.SourceLaws.{set_scale_is_free, set_forms_hold, set_forms_listed};
 
     ghost count = { λ s. length s.problem.low };
@@ -397,7 +397,7 @@ impl<'a, B: Begun> RowSource for Spreads<'a, B> {
 
     ghost in_step = { λ s forms. IsPoolOfSets s forms };
 
-    ghost candidates = { λ s. candidates_of s.problem };
+    ghost possible_forms = { λ s. possible_forms_of s.problem };
 
     fn variables(&self) -> u32 {
         variable_count(self.problem)

@@ -29,7 +29,7 @@ pub enum Spread {
     Undecided {
         /// The rows that the tree uses.
         rows: Vec<SetRow>,
-        /// The unfinished tree over the box at the greatest bound.
+        /// The undecided tree over the box at the greatest bound.
         tree: Tree,
     },
 }

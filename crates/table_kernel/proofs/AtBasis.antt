@@ -241,7 +241,7 @@ ConstantsAre k = AreConstants k.table.costs k.table.rows.items (nat_abs k.common
 -- the basis of a kernel, and a kernel of a basis
 pub kernel_basis : (k : Kernel) → IsKernel k → AreAtBasis k.table.costs k.table.rows.items k.table.basis.items (nat_abs k.common) (lows_of k) × ConstantsAre k
 kernel_basis k m =
-    let u = m.whole.unboxed in
+    let u = m.tableau.unboxed in
     let common : u.common ≡ nat_abs k.common = ap nat_abs m.numbers.common in
     let a = at_basis k.table.top k.table.costs k.table.rows.items k.table.basis.items (stated k).lines.items u in
     let b = subst (λ (D : ℕ). AreAtBasis k.table.costs k.table.rows.items k.table.basis.items D u.lows) common a in (
@@ -305,7 +305,7 @@ basis_kernel k s b box fit a c =
     record {
       shaped = s;
       bounded = b;
-      whole = record {
+      tableau = record {
         box = box;
         fit = fit;
         unboxed = unboxed_of k.table.top D k.table.costs k.table.rows.items k.table.basis.items (lows_of k) (stated k).lines.items a lines;

@@ -275,7 +275,7 @@ left_of k latest left m are =
     (λ c c_in. (let inside : c < width_of k = omega (arith, c_in, m.shaped.entering) in
     leads_raw (nat_abs k.common) c k.lows.items (shares_some k m.bounded)
     (subst (λ (rows : List (List ℤ)). LeadsPositive (numbers_in_column (suc c) rows)) m.numbers.lows
-    (m.whole.unboxed.lead c inside))))
+    (m.tableau.unboxed.lead c inside))))
     are
 
 -- a column that comes first among the lines' own numbers comes first over the common denominator

@@ -13,7 +13,7 @@ use Rattle.whole_numbers.proofs.Multiples.{left_divides_lcm, right_divides_lcm}
 use Rattle.whole_numbers.proofs.Sizes.{size_positive}
 use Rattle.integer_pivots.specs.declared.line.Line.{Line}
 use Rattle.integer_pivots.specs.declared.lowest.Lowest.{Lowest}
-use Rattle.integer_pivots.specs.declared.turn.Turn.{Turn}
+use Rattle.integer_pivots.specs.declared.turned_line.Turn.{Turn}
 use Rattle.integer_pivots.specs.Lines.{IsLine, no_line}
 use Rattle.integer_pivots.specs.Turns.{AreTurnedLines, IsLowestAfter, IsTurnedLine, MayTurnTo, turn_at}
 use Rattle.integer_pivots.proofs.LowestTurns.{constant_of_line, lowest_divides, lowest_unique, small_of_line}

@@ -29,7 +29,7 @@ use Rattle.integer_pivots.specs.Lines.{IsLine, rows_of}
 use Rattle.integer_pivots.specs.Leads.{AreLeads}
 use Rattle.integer_pivots.specs.Numbers.{AllWithin, product_sum, weight_of}
 use Rattle.integer_pivots.specs.Uses.{uses_in, uses_by}
-use Rattle.integer_pivots.specs.declared.turn.Turn.{Turn}
+use Rattle.integer_pivots.specs.declared.turned_line.Turn.{Turn}
 use Rattle.table_kernel.specs.declared.kernel.Kernel.{Kernel}
 use Rattle.table_kernel.specs.Kernels.{IsBounded, IsKernel, IsShaped, lows_of, width_of}
 use Rattle.table_kernel.specs.Bases.{AreAtBasis}
@@ -239,9 +239,9 @@ kernel_more old new f line z m fits covered z_is small g is long =
     let lows : lows_of new ≡ lows_of old =
     ap (λ (y : ℤ). map (scaled_line (nat_abs y)) new.lows.items) g.common ∙ ap (λ (ls : Vec Line Global). map (scaled_line D) ls.items) g.lows in
     basis_kernel new (grown_shaped old new f z s g (line_more old new f line z s g is long)) (grown_bounded old new f z m.bounded covered small g)
-    (subst (λ (box : CostBox). IsBox (length box.low) box) (sym g.table.costs) m.whole.box)
+    (subst (λ (box : CostBox). IsBox (length box.low) box) (sym g.table.costs) m.tableau.box)
     (subst (λ (box : CostBox). All (FitsBox box) new.table.rows.items) (sym g.table.costs)
-    (subst (All (FitsBox costs)) (sym g.table.rows) (All-append (FitsBox costs) old.table.rows.items (f ∷ []) m.whole.fit (one_all (FitsBox costs) f fits))))
+    (subst (All (FitsBox costs)) (sym g.table.rows) (All-append (FitsBox costs) old.table.rows.items (f ∷ []) m.tableau.fit (one_all (FitsBox costs) f fits))))
     (subst (λ (box : CostBox). AreAtBasis box new.table.rows.items new.table.basis.items (nat_abs new.common) (lows_of new)) (sym g.table.costs)
     (subst (λ (fs : List Form). AreAtBasis costs fs new.table.basis.items (nat_abs new.common) (lows_of new)) (sym g.table.rows)
     (subst (λ (ms : List Member). AreAtBasis costs rows ms (nat_abs new.common) (lows_of new)) (sym g.table.basis)

@@ -86,5 +86,5 @@ pub record IsMoving (k : Kernel) : Type 0 where
 pub record IsKernel (k : Kernel) : Type 0 where
   pub shaped : IsShaped k
   pub bounded : IsBounded k
-  pub whole : IsTableau (stated k)
+  pub tableau : IsTableau (stated k)
   pub numbers : AreKernelNumbers k whole.unboxed

@@ -16,8 +16,8 @@ use Rattle.lsdb_build.specs.declared.Far.{Far}
 use Rattle.lsdb_build.specs.declared.Far.TheVariants.{Router as ToRouter, Subnet as ToSubnet}
 use Rattle.lsdb_build.specs.declared.Linked.{Linked}
 use Rattle.lsdb_build.specs.Graphs.{Database}
-use Rattle.request_reader.specs.declared.Part.{Part}
-use Rattle.request_reader.specs.declared.Part.TheVariants.{Router, Interface}
+use Rattle.request_reader.specs.declared.Excluded.{Excluded}
+use Rattle.request_reader.specs.declared.Excluded.TheVariants.{Router, Interface}
 use Rattle.wanted_paths.specs.Paths.{link_number, router_number, link_excludes, excludes, excluded_edges}
 use Rattle.wanted_paths.specs.Excluded.{excluded_from, excluded_at, excluded_by, excluded_by_all}
 use Rattle.wanted_paths.proofs.LookUps.{filter_twice}
@@ -97,7 +97,7 @@ has_link d g l e (Some link) within =
     excludes_is (Some m) (ToSubnet s) = refl
 
 -- an edge is in the list exactly where the part excludes it
-has_part : (d : Database) (g : Area) (e : ℕ) (part : Part) → e < length g.edges → has e (excluded_by d g part) ≡ excludes d g e part
+has_part : (d : Database) (g : Area) (e : ℕ) (part : Excluded) → e < length g.edges → has e (excluded_by d g part) ≡ excludes d g e part
 has_part d g e (Router name) within =
     let r = router_number d name in
     list_any-append (λ x. e == x) (edges_out g r) (edges_in g r)
@@ -107,7 +107,7 @@ has_part d g e (Interface router interface) within =
     let l = link_number d router interface in
     has_link d g l e (slice_get d.links l) within
 
-pub has_parts : (d : Database) (g : Area) (e : ℕ) (parts : List Part) → e < length g.edges → has e (excluded_by_all d g parts) ≡ list_any (excludes d g e) parts
+pub has_parts : (d : Database) (g : Area) (e : ℕ) (parts : List Excluded) → e < length g.edges → has e (excluded_by_all d g parts) ≡ list_any (excludes d g e) parts
 has_parts d g e [] within = refl
 has_parts d g e (part ∷ parts) within =
     list_any-append (λ x. e == x) (excluded_by d g part) (excluded_by_all d g parts)
@@ -115,7 +115,7 @@ has_parts d g e (part ∷ parts) within =
     ∙ ap (λ b. excludes d g e part || b) (has_parts d g e parts within)
 
 -- a mark tells whether the edge is excluded
-pub mark_is : (d : Database) (g : Area) (parts : List Part) (excluded : List ℕ) (marks : List Bool) (e : ℕ) →
+pub mark_is : (d : Database) (g : Area) (parts : List Excluded) (excluded : List ℕ) (marks : List Bool) (e : ℕ) →
     AreEdgeMarks excluded marks → excluded ≡ excluded_by_all d g parts → length marks ≡ length g.edges → e < length g.edges →
     is_marked marks e ≡ list_any (excludes d g e) parts
 mark_is d g parts excluded marks e are is count within =
@@ -132,7 +132,7 @@ mark_is d g parts excluded marks e are is count within =
     by_mark false false to from same = same
 
 -- the marked edges are those that the parts exclude
-pub marked_are : (d : Database) (g : Area) (parts : List Part) (excluded : List ℕ) (marks : List Bool) →
+pub marked_are : (d : Database) (g : Area) (parts : List Excluded) (excluded : List ℕ) (marks : List Bool) →
     AreEdgeMarks excluded marks → excluded ≡ excluded_by_all d g parts → length marks ≡ length g.edges →
     filter (is_marked marks) (numbers_from 0 (length marks)) ≡ excluded_edges d g parts
 marked_are d g parts excluded marks are is count =
@@ -141,7 +141,7 @@ marked_are d g parts excluded marks are is count =
     ∙ ap (λ n. filter (λ e. list_any (excludes d g e) parts) (numbers_from 0 n)) count
 
 -- a path has a marked edge exactly where one of its edges is excluded
-pub path_marked : (d : Database) (g : Area) (parts : List Part) (excluded : List ℕ) (marks : List Bool) (es : List ℕ) →
+pub path_marked : (d : Database) (g : Area) (parts : List Excluded) (excluded : List ℕ) (marks : List Bool) (es : List ℕ) →
     AreEdgeMarks excluded marks → excluded ≡ excluded_by_all d g parts → length marks ≡ length g.edges →
     All (λ e. e < length g.edges) es →
     list_any (is_marked marks) es ≡ list_any (λ e. list_any (excludes d g e) parts) es

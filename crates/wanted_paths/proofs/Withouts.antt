@@ -1,4 +1,4 @@
--- The faults of what a path goes without.
+-- The faults of what a path excludes.
 use Rattle.std.proofs.Common.{◌≡◌, ℕ, refl, sym, ◌∙◌, ap, subst, List, [], ◌++◌, length, Bool}
 use Rattle.std.specs.Prelude.{not, ◌||◌}
 use Rattle.std.specs.List.{list_any}
@@ -8,7 +8,7 @@ use Rattle.area_graph.specs.Area.{Area}
 use Rattle.area_graph.specs.Distances.{AreEdgeMarks}
 use Rattle.area_graph.proofs.Visits.{joined_known}
 use Rattle.lsdb_build.specs.Graphs.{Database, IsAreaDatabase}
-use Rattle.request_reader.specs.declared.Part.{Part}
+use Rattle.request_reader.specs.declared.Excluded.{Excluded}
 use Rattle.wanted_paths.specs.declared.routes.Walk.{Walk}
 use Rattle.request_reader.specs.WrittenRoutes.{Route}
 use Rattle.wanted_paths.specs.Paths.{next_name, router_number, route_edges}
@@ -36,13 +36,13 @@ walk_simple d line route base none =
     (hops_joined d line 1 route.hops route.last parts.1) (well_from free (LoopPath line) whole.1)
 
 -- the edges of the outline that are excluded, as a list and as marks
-pub record AreExcluded (d : Database) (parts : List Part) (excluded : List ℕ) (marks : List Bool) : Type 0 where
+pub record AreExcluded (d : Database) (parts : List Excluded) (excluded : List ℕ) (marks : List Bool) : Type 0 where
   pub are : AreEdgeMarks excluded marks
   pub all : excluded ≡ excluded_by_all d (outline d) parts
   pub count : length marks ≡ length (outline d).edges
 
 -- the marks that were set by a list as it was lent
-pub excluded_marks : (d : Database) (g : Area) (parts : List Part) (lent excluded : List ℕ) (old marks : List Bool) →
+pub excluded_marks : (d : Database) (g : Area) (parts : List Excluded) (lent excluded : List ℕ) (old marks : List Bool) →
     g ≡ outline d → lent ≡ excluded → AreEdgeMarks lent marks → excluded ≡ excluded_by_all d g parts →
     length marks ≡ length old → length old ≡ length g.edges → AreExcluded d parts excluded marks
 excluded_marks d g parts lent excluded old marks graph same are all kept count = record {
@@ -51,7 +51,7 @@ excluded_marks d g parts lent excluded old marks graph same are all kept count =
   count = kept ∙ count ∙ ap (λ (h : Area). length h.edges) graph;
 }
 
-pub without_faults_are : (d : Database) (line : ℕ) (route : Route) (walk : Walk) (parts : List Part) (excluded : List ℕ)
+pub without_faults_are : (d : Database) (line : ℕ) (route : Route) (walk : Walk) (parts : List Excluded) (excluded : List ℕ)
     (marks : List Bool) (tested : Bool) → IsAreaDatabase d → IsWalk d route walk → walk_faults d line route ≡ [] →
     parts_faults d line parts ≡ [] → AreExcluded d parts excluded marks →
     tested ≡ (list_any (is_router_part (next_name route.hops route.last)) parts

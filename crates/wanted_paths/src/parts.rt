@@ -1,4 +1,4 @@
-//! Resolves what a wanted path goes without.
+//! Resolves what a wanted path excludes.
 ghost use Rattle.std.specs.Prelude.{◌≡◌, ◌+◌, ◌^◌, ◌<◌, ◌==◌, ◌++◌, [], Some, false, filter, length, slice_get, IfOk, IfErr, OnOk};
 ghost use Rattle.std.specs.List.{list_any};
 ghost use Rattle.cost_base.specs.Lists.{first_of, numbers_from};
@@ -15,7 +15,7 @@ use crate::routes::subnet_vertex;
 use area_graph::{Graph, far_end};
 use cost_base::{OutOfMemory, Refusal, is_marked, push_if, push_last, push_some};
 use lsdb_build::{Far, Linked};
-use request_reader::Part;
+use request_reader::Excluded;
 use std::alloc::Global;
 
 /// Appends those of some edges that end at a vertex.
@@ -107,7 +107,7 @@ fn push_part(
     names: &Names,
     graph: &Graph,
     line: u32,
-    part: &Part,
+    part: &Excluded,
     excluded: &mut Vec<u32>,
 ) -> Result<(), Refusal<ResolutionFault, ()>>
     requires { graph.now ≡ outline names.now }
@@ -118,11 +118,11 @@ fn push_part(
         (TellsResolution (first_of (part_faults names.now line part.now))) }
 {
     match part {
-        Part::Router(name) => {
+        Excluded::Router(name) => {
             let router = names.router(line, name.as_bytes())?;
             push_router(graph, router, excluded)?;
         }
-        Part::Interface(router, interface) => {
+        Excluded::Interface(router, interface) => {
             let number = names.link(line, router.as_bytes(), interface.as_bytes())?;
             push_interface(names, graph, number, excluded)?;
         }
@@ -136,7 +136,7 @@ pub fn excluded_by(
     names: &Names,
     graph: &Graph,
     line: u32,
-    parts: &[Part],
+    parts: &[Excluded],
 ) -> Result<Vec<u32>, Refusal<ResolutionFault, ()>>
     requires { graph.now ≡ outline names.now }
     ensures made { IfOk result (λ excluded. (parts_faults names.now line parts.now ≡ []) ×
@@ -152,17 +152,17 @@ pub fn excluded_by(
 }
 
 /// Whether a part is the router of a name.
-fn is_router_part(name: &[u8], part: &Part) -> bool
+fn is_router_part(name: &[u8], part: &Excluded) -> bool
     ensures { result ≡ is_router_part name.now part.now }
 {
     match part {
-        Part::Router(router) => router.as_bytes() == name,
-        Part::Interface(_, _) => false,
+        Excluded::Router(router) => router.as_bytes() == name,
+        Excluded::Interface(_, _) => false,
     }
 }
 
 /// Whether one of the parts is the router of a name.
-pub fn has_router(name: &[u8], parts: &[Part]) -> bool
+pub fn has_router(name: &[u8], parts: &[Excluded]) -> bool
     ensures { result ≡ list_any (is_router_part name.now) parts.now }
 {
     parts.iter().any(|part| is_router_part(name, part))

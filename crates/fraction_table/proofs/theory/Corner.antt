@@ -36,9 +36,9 @@ pub one_value : (p : Point) → value_at one_form p ≡ pos p.scale
 one_value p = ring (pos p.scale ∷ []) (num (pos 1) ⊗ var 0 ⊕ num (pos 0)) (var 0) refl
 
 -- A form whose constant is negative and none of whose other entries is positive is negative wherever the basis is met.
-pub stuck_negative : (r : Form) (basis : List Form) (D : ℕ) (m : ℤ) (ms : List ℤ) (p : Point) →
+pub refuting_negative : (r : Form) (basis : List Form) (D : ℕ) (m : ℤ) (ms : List ℤ) (p : Point) →
     IsMixture r basis D (m ∷ ms) → m <ℤ pos 0 → NotAbove ms → AreMet basis p → 0 < p.scale → value_at r p <ℤ pos 0
-stuck_negative r basis D m ms p is below low met scale_positive =
+refuting_negative r basis D m ms p is below low met scale_positive =
     negative_factor D (value_at r p)
     (rw (equation_at r basis D (m ∷ ms) p is)
     (rw (one_value p)

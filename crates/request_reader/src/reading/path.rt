@@ -6,7 +6,7 @@ ghost use Rattle.request_reader.specs.ReadingLines as definition;
 ghost use Rattle.request_reader.specs.ReadingLines.{to_without, behind_without, excluded_parts, parts_by_words};
 
 use crate::reading::statement::Statement;
-use crate::{Directive, Hops, Part, RequestFault};
+use crate::{Directive, Hops, Excluded, RequestFault};
 use cost_base::{Listed, Name, OutOfMemory, push_last};
 use std::alloc::Global;
 use text_lines::{cut, first_word};
@@ -106,7 +106,7 @@ fn behind_without(text: &[u8]) -> Option<&[u8]>
 
 /// What a path excludes: nothing without the word `without`, and else at least one part behind it.
 /// None exactly where none stands there or one has no such form.
-fn read_excluded_parts(alloc: Global, text: &[u8]) -> Result<Option<Listed<Part>>, OutOfMemory>
+fn read_excluded_parts(alloc: Global, text: &[u8]) -> Result<Option<Listed<Excluded>>, OutOfMemory>
     ensures { IfOk result (λ parts. parts ≡ excluded_parts (behind_without (words text.now))) }
 {
     let Some(rest) = behind_without(text) else {
@@ -119,7 +119,7 @@ fn read_excluded_parts(alloc: Global, text: &[u8]) -> Result<Option<Listed<Part>
 }
 
 /// The parts of words R and R:IF; None exactly where a word is neither.
-fn read_parts(alloc: Global, text: &[u8]) -> Result<Option<Listed<Part>>, OutOfMemory>
+fn read_parts(alloc: Global, text: &[u8]) -> Result<Option<Listed<Excluded>>, OutOfMemory>
     ensures { IfOk result (λ parts. parts ≡ parts_by_words (words text.now)) }
 {
     let mut parts = Vec::new(alloc);
@@ -135,15 +135,15 @@ fn read_parts(alloc: Global, text: &[u8]) -> Result<Option<Listed<Part>>, OutOfM
 }
 
 /// A router of a word R, or an interface of a word R:IF; None exactly where the word is neither.
-fn read_part(alloc: Global, word: &[u8]) -> Result<Option<Part>, OutOfMemory>
+fn read_part(alloc: Global, word: &[u8]) -> Result<Option<Excluded>, OutOfMemory>
     ensures { IfOk result (λ part. part ≡ definition.part_of word.now) }
 {
     if is_router(word) {
         let router = Name::from_bytes(alloc, word)?;
-        return Ok(Some(Part::Router(router)));
+        return Ok(Some(Excluded::Router(router)));
     }
     match read_hop(alloc, word)? {
-        Some((router, interface)) => Ok(Some(Part::Interface(router, interface))),
+        Some((router, interface)) => Ok(Some(Excluded::Interface(router, interface))),
         None => Ok(None),
     }
 }

@@ -9,7 +9,7 @@ ghost use Rattle.request_reader.specs.declared.reading.statement.Statement.TheVa
 
 use crate::reading::line::statement_of;
 use crate::reading::statement::Statement;
-use crate::{Directive, Item, RequestFault, RequestFile};
+use crate::{Directive, DirectiveLine, RequestFault, RequestFile};
 use cost_base::{Listed, Refusal, push_last};
 use std::alloc::Global;
 use std::marker::Model;
@@ -25,7 +25,7 @@ pub(crate) struct Reader {
     area: Option<u32>,
     default_cost: Option<u16>,
     paths: u32,
-    items: Vec<Item>,
+    items: Vec<DirectiveLine>,
 }
 
 impl Model for Reader {
@@ -111,7 +111,7 @@ impl Reader {
         ensures refused { IfErr result
             (TellsFault (fault_in_line line (fault_said self.old (AskSaid what)))) }
     {
-        let item = Item { line, what };
+        let item = DirectiveLine { line, what };
         if is_path(&item) {
             return self.take_path(item);
         }
@@ -120,7 +120,7 @@ impl Reader {
     }
 
     /// Takes a path, unless it is one too many.
-    fn take_path(&mut self, path: Item) -> Result<(), Refusal<RequestFault>>
+    fn take_path(&mut self, path: DirectiveLine) -> Result<(), Refusal<RequestFault>>
         requires bounds { HasGoodBounds path.what }
         requires path { is_path path ≡ true }
         ensures taken { OnOk result (fault_said self.old (AskSaid path.what) ≡ None) }
@@ -179,7 +179,7 @@ impl StatementReader<RequestFault> for Reader {
 }
 
 /// Whether an item wants a path.
-fn is_path(item: &Item) -> bool
+fn is_path(item: &DirectiveLine) -> bool
     ensures { result ≡ is_path item.now }
 {
     matches!(item.what, Directive::Path(_, _))

@@ -25,4 +25,4 @@ put_tree-requires c =
 pub put_tree-requires-2 : goal.put_tree-requires-2
 put_tree-requires-2 c =
     subst (λ (tree : Option CapTree). AreShort (tree_lines (codes "open") tree)) (sym c.as_ref-3.ensures.value)
-    (short_parts (parts_held c.answer.inside) c.answer.invariant.lines).unfinished
+    (short_parts (parts_held c.answer.inside) c.answer.invariant.lines).undecided

@@ -1,7 +1,7 @@
 use Rattle.std.proofs.Common.{◌<◌, ◌^◌, ℕ, ◌++◌, All, length, get_or, ◌≤◌, sym, ap, subst, ◌∙◌, arith}
 use Rattle.std.proofs.lemmas.List.Quantifiers.{all_pairs_push}
-use Rattle.design_problem.specs.Bounds.{BoundsParts, IsRowNumber}
-use Rattle.design_problem.specs.Text.{part_words}
+use Rattle.design_problem.specs.AnswerRanges.{BoundsParts, IsRowNumber}
+use Rattle.design_problem.specs.Text.{multiplier_words}
 use Rattle.answer_lines.specs.Words.{words_left}
 use Rattle.answer_lines.proofs.ListParts.{not-both}
 use Rattle.answer_lines.proofs.NumberWords.{All-more}
@@ -32,7 +32,7 @@ loop-left-preserved c =
       words =
           part_more (words_left c.args.words) (words_left c.loop-left.left) (words_left c.in-Some.rest) items part
           c.loop-left.invariant.words c.in-Some.ensures.3
-          ∙ ap (λ l. part_words l ++ words_left c.in-Some.rest) (sym c.in_ok-push.ensures.items);
+          ∙ ap (λ l. multiplier_words l ++ words_left c.in-Some.rest) (sym c.in_ok-push.ensures.items);
       bounds =
           subst (λ l. BoundsParts l) (sym c.in_ok-push.ensures.items)
           (record {

@@ -39,7 +39,7 @@ pub report_of_wanted-requires-clause-wanted : goal.report_of_wanted-requires-cla
 report_of_wanted-requires-clause-wanted c =
     let names = c.args.names.now in
     ap length (wanted names c.deref.result.now c.args.lines.now c.in_ok-wanted.field-0 c.in-Ok.wanted c.in-Ok.is c.in_ok-wanted.ensures).1 ∙ lines_length names c.deref.result.now c.args.lines.now
-    ∙ ap length (c.deref.ensures.value ∙ c.in_ok-present.ensures) ∙ length-map c.args.network.now.lsdb.links (present_cost c.args.network.now.requests)
+    ∙ ap length (c.deref.ensures.value ∙ c.in_ok-present.ensures) ∙ length-map c.args.network.now.lsdb.links (present_cost c.args.network.now.request_file)
     ∙ sym (ap (λ (d : Database). length d.links) c.requires.names)
 
 pub report_of_wanted-requires-clause-positive : goal.report_of_wanted-requires-clause-positive
@@ -59,7 +59,7 @@ returns-in-Ok c =
     let moves = moves_between c.args.words.by names present c.in-Ok.wanted.items in
     IfOk-weaker c.report_of_wanted.result
     (λ (report : Report). ReportsSteps c.args.words.nodes c.args.words.by names
-    (record { graph = graph_by_links network.lsdb; paths = network.problem.paths; moves = moves }) report)
+    (record { graph = graph_by_links network.lsdb; requests = network.problem.requests; moves = moves }) report)
     (λ (report : Report). (plan : Plan) → IsPlanOf network plan → SaysCosts plan.bytes (Some lines) →
     MaySteps c.args.words.nodes c.args.words.by plan report.status (bytes_in report.text))
     (λ report reports plan is said.

@@ -6,7 +6,7 @@ pub loop-number-init : goal.loop-number-init
 loop-number-init c = record { room = c.requires.room; held = held_none c.args.rollout.now c.new-held.result.items c.new-held.ensures.items }
 
 pub is_only_in_both-is_held-requires-clause-known : goal.is_only_in_both-is_held-requires-clause-known
-is_only_in_both-is_held-requires-clause-known c = let below = c.loop-number-test.true in let count = c.path_count-number-end.ensures in omega (arith, below, count)
+is_only_in_both-is_held-requires-clause-known c = let below = c.loop-number-test.true in let count = c.request_count-number-end.ensures in omega (arith, below, count)
 
 pub is_only_in_both-is_held-requires-clause-room : goal.is_only_in_both-is_held-requires-clause-room
 is_only_in_both-is_held-requires-clause-room c = c.loop-number.invariant.room
@@ -28,5 +28,5 @@ returns-clause-room c = c.loop-number.invariant.room
 pub returns-clause-held : goal.returns-clause-held
 returns-clause-held c =
     held_all c.args.rollout.now c.loop-number.held.items c.loop-number.number
-    (let past = c.loop-number-test.false in let most = c.loop-number.auto.number-end in let count = c.path_count-number-end.ensures in
+    (let past = c.loop-number-test.false in let most = c.loop-number.auto.number-end in let count = c.request_count-number-end.ensures in
     omega (arith, past, most, count)) c.loop-number.invariant.held

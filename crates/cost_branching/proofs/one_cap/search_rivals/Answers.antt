@@ -3,7 +3,7 @@ use Rattle.std.specs.Prelude.{All, IfOk}
 use Rattle.std.proofs.lemmas.Result.{IfOk-weaker, err_from_is_err_and}
 use Rattle.design_problem.specs.Earnest.{IsLeastPoint}
 use Rattle.design_problem.specs.Rows.{LeadsEach}
-use Rattle.form_search.specs.Advised.{IsTreeOf}
+use Rattle.form_search.specs.AdvisorsAsked.{IsTreeOf}
 use Rattle.form_search.proofs.AdvisorLaws.{calls_begun, calls_there, start}
 use Rattle.cost_branching.specs.Pools.{IsRowPool, Pooled}
 use Rattle.cost_branching.specs.Rivals.{IsTrueRowForm, KnownRows}

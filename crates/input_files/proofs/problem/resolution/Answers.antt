@@ -12,11 +12,11 @@ use Rattle.input_files.proofs.problem.resolution.Goals as goal
 pub returns-in-Ok-clause-present : goal.returns-in-Ok-clause-present
 returns-in-Ok-clause-present c = λ same.
     ap (λ (p : DesignProblem). p.low) c.in-Ok.ensures.made.1
-    ∙ subst (λ (v : View). (viewed_problem v c.args.requests.now c.args.lsdb.now).low ≡ []) (sym same) (present_low c.args.requests.now c.args.lsdb.now)
+    ∙ subst (λ (v : View). (viewed_problem v c.args.request_file.now c.args.lsdb.now).low ≡ []) (sym same) (present_low c.args.request_file.now c.args.lsdb.now)
 
 pub returns-in-Ok-clause-read : goal.returns-in-Ok-clause-read
 returns-in-Ok-clause-read c =
-    let asked = c.args.requests.now in
+    let asked = c.args.request_file.now in
     let d = c.args.lsdb.now in
     record {
       said = viewed_problem c.args.view asked d;
@@ -27,6 +27,6 @@ returns-in-Ok-clause-read c =
 
 pub returns-clause-read : goal.returns-clause-read
 returns-clause-read c =
-    resolution_stops (files_named c.args.words) c.args.lsdb.now (viewed_problem c.args.view c.args.requests.now c.args.lsdb.now)
-    (viewed_fault c.args.view c.args.requests.now c.args.lsdb.now) c.in-Err.refusal c.stop_of_resolution.result
+    resolution_stops (files_named c.args.words) c.args.lsdb.now (viewed_problem c.args.view c.args.request_file.now c.args.lsdb.now)
+    (viewed_fault c.args.view c.args.request_file.now c.args.lsdb.now) c.in-Err.refusal c.stop_of_resolution.result
     c.in-Err.ensures.refused c.stop_of_resolution.ensures

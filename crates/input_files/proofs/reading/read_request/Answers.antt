@@ -27,10 +27,10 @@ returns-in_err-bytes g c =
 pub returns : goal.returns
 returns g c =
     gave_parsed (g.S.Shelf.gave c.args.shelf.now c.read_file.new.shelf) longest_file c.args.name (said_by c.args.name.now)
-    request_fault_number IsAsked c.in_ok-bytes.bytes c.read_requests.result c.said_or_stop.result c.in_ok-bytes.ensures.read
+    request_fault_number IsAsked c.in_ok-bytes.bytes c.read_request_file.result c.said_or_stop.result c.in_ok-bytes.ensures.read
     c.said_or_stop.ensures
     (λ read same.
     (let here = c.deref.ensures.value ∙ same in
-    lines_parsed request_fault_number c.args.name (asked_by read) (request_fault read) IsAsked c.read_requests.result
-    (subst (λ (bs : List ℕ). IfOk c.read_requests.result (λ r. (request_fault bs ≡ None) × (r ≡ asked_by bs))) here c.read_requests.ensures.made)
-    (subst (λ (bs : List ℕ). IfErr c.read_requests.result (TellsFault (request_fault bs))) here c.read_requests.ensures.refused)))
+    lines_parsed request_fault_number c.args.name (asked_by read) (request_fault read) IsAsked c.read_request_file.result
+    (subst (λ (bs : List ℕ). IfOk c.read_request_file.result (λ r. (request_fault bs ≡ None) × (r ≡ asked_by bs))) here c.read_request_file.ensures.made)
+    (subst (λ (bs : List ℕ). IfErr c.read_request_file.result (TellsFault (request_fault bs))) here c.read_request_file.ensures.refused)))

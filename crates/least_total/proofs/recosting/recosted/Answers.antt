@@ -29,8 +29,8 @@ invariant_of-result c =
       floor = c.answer.inside.floor;
       rows = c.answer.inside.rows;
       proof = c.answer.inside.proof;
-      unfinished =
-          c.answer.inside.unfinished;
+      undecided =
+          c.answer.inside.undecided;
     } in
     recosted_kept c.args.problem.now a c.args.costs.now c.in_ok-costs.costs c.answer.invariant
     (printed_at (goal.at.invariant_of-result c).In_ok-costs)
@@ -45,8 +45,8 @@ returns c =
       floor = c.answer.inside.floor;
       rows = c.answer.inside.rows;
       proof = c.answer.inside.proof;
-      unfinished =
-          c.answer.inside.unfinished;
+      undecided =
+          c.answer.inside.undecided;
     } in
     let new : AnswerParts = record {
       verdict = c.answer.inside.verdict;
@@ -54,8 +54,8 @@ returns c =
       floor = c.answer.inside.floor;
       rows = c.answer.inside.rows;
       proof = c.answer.inside.proof;
-      unfinished =
-          c.answer.inside.unfinished;
+      undecided =
+          c.answer.inside.undecided;
     } in
     let valid : IsValid p a = subst (IsValid p) (sym c.answer.view_is) c.requires.valid in
     let is = ap (λ (b : AnswerParts). b.verdict) c.answer.view_is ∙ c.requires.optimal.1 in

@@ -1,4 +1,4 @@
--- The budget was used up: the lines of the unfinished tree.
+-- The budget was used up: the lines of the undecided tree.
 use Rattle.std.proofs.Common.{arith}
 use Rattle.std.specs.Prelude.{codes}
 use Rattle.path_commands.proofs.ConflictLines.{made_part_short, rows_part_short}

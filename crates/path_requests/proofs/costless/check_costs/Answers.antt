@@ -16,7 +16,7 @@ found : (c : After-first_lacking) → c.first_lacking.result
 found c =
     let a = c.args.choices.now.asked in
     let d = c.args.choices.now.database in
-    c.first_lacking.ensures a d (ap (λ (x : Asked). x.default_cost) (sym c.requests.ensures.value))
+    c.first_lacking.ensures a d (ap (λ (x : Asked). x.default_cost) (sym c.request_file.ensures.value))
     (all_ranges a d c.links.result.now c.ranges-2.result.now c.links.ensures.value c.ranges-2.ensures)
     ∙ ap (λ (links : List Linked). first_of (cost_faults a d 0 links)) c.links.ensures.value
 

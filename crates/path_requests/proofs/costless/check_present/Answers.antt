@@ -11,11 +11,11 @@ use Rattle.path_requests.proofs.costless.check_present.Goals as goal
 
 -- what is found is the first fault
 found : (c : After-first_at_present) → c.first_at_present.result
-    ≡ first_of (cost_faults (present_asked c.args.requests.now) c.args.names.now 0 c.args.names.now.links)
+    ≡ first_of (cost_faults (present_asked c.args.request_file.now) c.args.names.now 0 c.args.names.now.links)
 found c =
     let d = c.args.names.now in
     c.first_at_present.ensures d
-    ∙ ap (λ (links : List Linked). first_of (cost_faults (present_asked c.args.requests.now) d 0 links)) c.links.ensures.value
+    ∙ ap (λ (links : List Linked). first_of (cost_faults (present_asked c.args.request_file.now) d 0 links)) c.links.ensures.value
 
 pub returns-clause-made : goal.returns-clause-made
 returns-clause-made c =

@@ -5,5 +5,5 @@ use Rattle.path_requests.proofs.PresentLaws.{fixed}
 use Rattle.path_requests.proofs.costless.first_at_present.Goals as goal
 
 pub returns : goal.returns
-returns c = λ d. c.first_lacking.ensures (present_asked c.args.requests.now) d refl
-    (λ i link at. sym (fixed c.args.requests.now d link))
+returns c = λ d. c.first_lacking.ensures (present_asked c.args.request_file.now) d refl
+    (λ i link at. sym (fixed c.args.request_file.now d link))

@@ -11,13 +11,13 @@ loop-i-init c = λ a d same has. refl
 
 pub returns-then-lacks_cost : goal.returns-then-lacks_cost
 returns-then-lacks_cost c = λ a d same has.
-    sym (ap first_of (lacking_here c.args.requests.now a d c.args.links.now c.args.ranges.now c.loop-i.i c.index-links-i.result c.range_in.result true
+    sym (ap first_of (lacking_here c.args.request_file.now a d c.args.links.now c.args.ranges.now c.loop-i.i c.index-links-i.result c.range_in.result true
     c.loop-i-test.true c.index-links-i.is c.range_in.ensures (sym c.if-lacks_cost.true ∙ c.lacks_cost.ensures) same has))
     ∙ ap first_of (c.loop-i.invariant a d same has)
 
 pub loop-i-preserved : goal.loop-i-preserved
 loop-i-preserved c = λ a d same has.
-    sym (lacking_here c.args.requests.now a d c.args.links.now c.args.ranges.now c.loop-i.i c.index-links-i.result c.range_in.result false
+    sym (lacking_here c.args.request_file.now a d c.args.links.now c.args.ranges.now c.loop-i.i c.index-links-i.result c.range_in.result false
     c.loop-i-test.true c.index-links-i.is c.range_in.ensures (sym c.if-lacks_cost.false ∙ c.lacks_cost.ensures) same has)
     ∙ c.loop-i.invariant a d same has
 

@@ -8,4 +8,4 @@ pub returns : goal.returns
 returns c =
     let d = c.args.lsdb.now in
     c.first_at_present.ensures d
-    ∙ ap (λ (links : List Linked). first_of (cost_faults (present_asked c.args.requests.now) d 0 links)) c.links.ensures.value
+    ∙ ap (λ (links : List Linked). first_of (cost_faults (present_asked c.args.request_file.now) d 0 links)) c.links.ensures.value

@@ -14,7 +14,7 @@ form_of-requires g c =
     let found = found_row s.problem c.requires.cheap.0 (set_at s.sets c.args.place) c.args.edges.now c.in_ok-row.row
     (c.keeps.ensures.sets c.args.place [] c.requires.place) c.requires.cheap.1 (c.in_ok-row.ensures.request ∙ c.name-name.ensures)
     c.in_ok-row.ensures.edges in
-    subst (λ (t : KnownSets). IsRouteOf t.problem.graph (slice_get t.problem.paths c.in_ok-row.row.request) c.in_ok-row.row.rival)
+    subst (λ (t : KnownSets). IsRouteOf t.problem.graph (slice_get t.problem.requests c.in_ok-row.row.request) c.in_ok-row.row.rival)
     (sym c.self.view_is) found.route
 
 pub push_row-requires : goal.push_row-requires
@@ -25,7 +25,7 @@ push_row-requires g c =
     c.in_ok-row.ensures.edges in
     c.in_ok-form.ensures.form
     ∙ row_form c.self.inside.problem.now c.in_ok-row.row
-    (subst (λ (t : KnownSets). IsRouteOf t.problem.graph (slice_get t.problem.paths c.in_ok-row.row.request) c.in_ok-row.row.rival)
+    (subst (λ (t : KnownSets). IsRouteOf t.problem.graph (slice_get t.problem.requests c.in_ok-row.row.request) c.in_ok-row.row.rival)
     (sym c.self.view_is) found.route)
     ∙ ap (λ (t : KnownSets). form_of_set_row t.problem (Outsider c.in_ok-row.row.request c.in_ok-row.row.rival)) c.self.view_is
 
@@ -45,7 +45,7 @@ returns-clause-one g c = λ point cheap.
       rows = c.in_ok-push_row.ensures.row ∙ ap (λ (k : ℕ). let t : KnownSets = record s { rows = s.rows ++ Outsider k row.rival ∷ [] } in t) found.name;
       forms = c.in_ok-push_row.ensures.form ∙ ap (λ (f : Form). c.args.pool.now ++ f ∷ [])
           (c.in_ok-form.ensures.form
-          ∙ row_form q row (subst (λ (t : KnownSets). IsRouteOf t.problem.graph (slice_get t.problem.paths row.request) row.rival) (sym c.self.view_is) found.route)
+          ∙ row_form q row (subst (λ (t : KnownSets). IsRouteOf t.problem.graph (slice_get t.problem.requests row.request) row.rival) (sym c.self.view_is) found.route)
           ∙ ap (λ (t : KnownSets). form_of_set_row t.problem (Outsider row.request row.rival)) c.self.view_is
           ∙ ap (λ (k : ℕ). form_of_set_row s.problem (Outsider k row.rival)) found.name);
     }

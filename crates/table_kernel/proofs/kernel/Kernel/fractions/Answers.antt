@@ -46,7 +46,7 @@ index-requires c =
       arith,
       c.loop-column-test.true,
       c.width-column-end.ensures,
-      c.requires.kernel.whole.unboxed.count,
+      c.requires.kernel.tableau.unboxed.count,
       t.table.basis.ok.0,
     )
 
@@ -64,7 +64,7 @@ loop-column-preserved c =
     fractions_next t.table.basis.items (member_at (stated t) place) (line_at (stated t) place) column
     (width_of t) c.index.result.now c.fraction_over-entry.result c.loop-column.parts.items
     c.put_negated.new.parts.items
-    (omega (arith, c.loop-column-test.true, c.width-column-end.ensures, m.whole.unboxed.count))
+    (omega (arith, c.loop-column-test.true, c.width-column-end.ensures, m.tableau.unboxed.count))
     (omega (arith, c.loop-column-test.true, c.width-column-end.ensures))
     (stated_long t m place c.requires.place)
     c.loop-column.invariant c.index.ensures
@@ -85,5 +85,5 @@ returns c =
       arith,
       c.loop-column-test.false,
       c.width-column-end.ensures,
-      c.requires.kernel.whole.unboxed.count,
+      c.requires.kernel.tableau.unboxed.count,
     )))

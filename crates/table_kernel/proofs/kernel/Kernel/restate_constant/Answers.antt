@@ -4,7 +4,7 @@ use Rattle.std.specs.Prelude.{ℤ, pos, slice_set}
 use Rattle.std.proofs.lemmas.List.{get_or_default, get_or-set_same}
 use Rattle.whole_numbers.specs.Fractions.{Fraction}
 use Rattle.whole_numbers.specs.Lists.{number_at}
-use Rattle.fraction_rows.specs.TableRows.{blank_row}
+use Rattle.fraction_rows.specs.TableLines.{blank_line}
 use Rattle.integer_pivots.proofs.Sizes.{read_number}
 use Rattle.table_kernel.specs.Kernels.{width_of}
 use Rattle.table_kernel.proofs.Columns.{common_small}
@@ -57,8 +57,8 @@ returns-clause-lines c =
     c.index_mut-2.ensures.value
     ∙ get_or-set_same lines c.args.place c.clear.new.self _ place_in
     ∙ c.clear.ensures
-    ∙ ap blank_row (let e : length c.index_mut.result.now - 1 ≡ width_of k = omega (arith, long) in e))
-    ∙ ap (λ (p : Fraction). slice_set (blank_row (width_of k)) 0 p) (c.fraction_over-constant.ensures.value
+    ∙ ap blank_line (let e : length c.index_mut.result.now - 1 ≡ width_of k = omega (arith, long) in e))
+    ∙ ap (λ (p : Fraction). slice_set (blank_line (width_of k)) 0 p) (c.fraction_over-constant.ensures.value
     ∙ over_as _ _ _ _ (ap nat_abs (common_read k c.requires.kernel.bounded)) (number_is (goal.at.returns-clause-lines c).After-from).0))
 
 pub returns-clause-keeps : goal.returns-clause-keeps

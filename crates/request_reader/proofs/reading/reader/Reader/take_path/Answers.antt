@@ -1,8 +1,8 @@
 -- The path is one too many, or keeps the rules.
 use Rattle.std.proofs.Common.{List, refl, subst, sym}
-use Rattle.request_reader.specs.declared.Item.{Item}
+use Rattle.request_reader.specs.declared.DirectiveLine.{DirectiveLine}
 use Rattle.request_reader.specs.ReadingSteps.{KeepsTold}
-use Rattle.request_reader.proofs.ReadingPaths.{counted_now, item_told, path_kept, path_lawful, path_refused}
+use Rattle.request_reader.proofs.ReadingPaths.{counted_now, line_told, path_kept, path_lawful, path_refused}
 use Rattle.request_reader.proofs.reading.reader.Reader.take_path.Goals as goal
 
 pub returns-then-self-ge-MOST_PATHS-clause-refused : goal.returns-then-self-ge-MOST_PATHS-clause-refused
@@ -21,7 +21,7 @@ returns-clause-taken c =
 
 pub invariant_of-self : goal.invariant_of-self
 invariant_of-self c =
-    subst (λ (items : List Item). KeepsTold c.self.inside.default_cost c.self.inside.paths items)
+    subst (λ (items : List DirectiveLine). KeepsTold c.self.inside.default_cost c.self.inside.paths items)
     (sym c.in_err-push_last.ensures.kept) c.self.invariant
 
 pub invariant_of-self-2 : goal.invariant_of-self-2
@@ -31,5 +31,5 @@ invariant_of-self-2 c =
 
 pub returns-clause-told : goal.returns-clause-told
 returns-clause-told c =
-    item_told c.self.inside.area c.self.inside.default_cost c.self.inside.items.items
+    line_told c.self.inside.area c.self.inside.default_cost c.self.inside.items.items
     c.push_last.new.things.items c.args.path c.args.self.now c.self.view_is c.in_ok-push_last.ensures.added
