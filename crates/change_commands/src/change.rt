@@ -40,7 +40,8 @@ fn text_of_change(
     change: &Change,
 ) -> Result<Vec<u8>, OutOfMemory>
     requires built { network.now.problem ≡ problem_of network.now.request_file network.now.lsdb }
-    requires present { present.now ≡ present_of_variables network.now.request_file network.now.lsdb }
+    requires present { present.now ≡ present_of_variables network.now.request_file
+        network.now.lsdb }
     requires found { (top : ℕ) × (nodes : ℕ) × (nodes ≤ 10000000) ×
         IsChangeFound (record {
           problem = network.now.problem;
@@ -48,8 +49,8 @@ fn text_of_change(
           top = top;
           nodes = nodes;
         }) change.now }
-    ensures { IfOk result (λ text. text.items ≡ change_text network.now.request_file network.now.lsdb
-        network.now.problem change.now) }
+    ensures { IfOk result (λ text. text.items ≡ change_text network.now.request_file
+        network.now.lsdb network.now.problem change.now) }
 {
     keeps_problem_on_graph(&network.problem);
     keeps_greatest_bound(&network.problem);
@@ -77,7 +78,8 @@ fn report_of_change(
     change: &Change,
 ) -> Result<Report, OutOfMemory>
     requires built { network.now.problem ≡ problem_of network.now.request_file network.now.lsdb }
-    requires present { present.now ≡ present_of_variables network.now.request_file network.now.lsdb }
+    requires present { present.now ≡ present_of_variables network.now.request_file
+        network.now.lsdb }
     requires found { (top : ℕ) × (nodes : ℕ) × (nodes ≤ 10000000) ×
         IsChangeFound (record {
           problem = network.now.problem;
@@ -101,9 +103,10 @@ fn report_of_present(
     limits: &Limits,
 ) -> Result<Report, OutOfMemory>
     requires built { network.now.problem ≡ problem_of network.now.request_file network.now.lsdb }
-    requires present { present.now ≡ present_of_variables network.now.request_file network.now.lsdb }
-    ensures { IfOk result (IsReportIn (limits_seen limits.now) network.now.request_file network.now.lsdb
-        network.now.problem) }
+    requires present { present.now ≡ present_of_variables network.now.request_file
+        network.now.lsdb }
+    ensures { IfOk result (IsReportIn (limits_seen limits.now) network.now.request_file
+        network.now.lsdb network.now.problem) }
 {
     keeps_greatest_bound(&network.problem);
     let change = find_change(alloc, &network.problem, present, limits)?;

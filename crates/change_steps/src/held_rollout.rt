@@ -76,8 +76,8 @@ impl<'a> Plan<'a> {
         })
     }
 
-    /// For the prover alone, a law of each plan, which takes no time: it keeps the conditions of its rollout, and its held paths are those of
-    /// the rollout.
+    /// For the prover alone, a law of each plan, which takes no time: it keeps the conditions of its rollout, and its
+    /// held paths are those of the rollout.
     pub fn keeps_conditions(&self)
         ensures rollout { IsRollout self.now.rollout }
         ensures held { AreHeld self.now.rollout self.now.held }

@@ -160,8 +160,8 @@ fn ask_one(
     pool: &mut FormPool,
 ) -> Result<bool, OutOfMemory>
     requires request { request < length problem.now.requests }
-    requires known { (point : Point) × AreCheapestRivals problem.now.graph point problem.now.requests
-        rivals.now }
+    requires known { (point : Point) × AreCheapestRivals problem.now.graph point
+        problem.now.requests rivals.now }
     ensures one { IfOk result (λ asked. (point : Point) → AreCheapestRivals problem.now.graph point
         problem.now.requests rivals.now → IsRequestAsked point request
         (record { problem = problem.now; rows = rows.old.items }) pool.old

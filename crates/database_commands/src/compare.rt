@@ -61,7 +61,8 @@ fn status_of(lines: &[Difference]) -> Status
     }
 }
 
-/// The area that a network's request file names. For the prover: a call, so that the caller's goals have this part alone.
+/// The area that a network's request file names. For the prover: a call, so that the caller's goals have
+/// this part alone.
 fn area_of(network: &Network) -> u32
     ensures { result ≡ network.now.request_file.area }
 {

@@ -105,7 +105,8 @@ fn check_paths(
     costs: &[u16],
 ) -> Result<(), Refusal<CheckFault, u64>>
     requires { IsInBox (box_of problem.now) costs.now }
-    ensures only { IfOk result (λ _. All (IsOnlyAt problem.now.graph costs.now) problem.now.requests) }
+    ensures only { IfOk result (λ _. All (IsOnlyAt problem.now.graph costs.now)
+        problem.now.requests) }
     ensures first { IfErr result
         (StopsBy (AtFirst (check_fault_number NotOnlyCheapest) (IsNotOnly problem.now costs.now) ∷
         [])) }

@@ -49,7 +49,8 @@ fn costs_there<S: RowSource>(
     // The point is as before, and the source accepts the same points with the same forms.
     ensures point { point.new ≡ point.old }
     ensures in_step { SameFor (S.in_step source.old) (S.in_step source.new) }
-    ensures same { SameSource S.count S.accepted S.true_form S.possible_forms source.old source.new }
+    ensures same { SameSource S.count S.accepted S.true_form S.possible_forms source.old
+        source.new }
 {
     if is_whole(point) {
         Ok(Some(whole_costs(alloc, point)?))
@@ -63,8 +64,8 @@ fn costs_there<S: RowSource>(
 /// The Split at one of the candidates.
 fn split_at(candidates: &[Candidate], place: usize) -> Entry
     requires { place < length candidates.now }
-    ensures candidate { (candidate : Candidate) × (slice_get candidates.now place ≡ Some candidate) ×
-        (result ≡ Split candidate.var candidate.floor) }
+    ensures candidate { (candidate : Candidate) × (slice_get candidates.now place ≡ Some candidate)
+        × (result ≡ Split candidate.var candidate.floor) }
     ensures fractional { (costs : CostBox) (point : Point) → All (IsFractional costs point)
         candidates.now → IsSplitAt costs point result }
 {
@@ -115,7 +116,8 @@ fn at_least_point<S: RowSource>(
     // The desk is as before, and the source accepts the same points with the same forms.
     ensures desk { desk.new ≡ desk.old }
     ensures in_step { SameFor (S.in_step source.old) (S.in_step source.new) }
-    ensures same { SameSource S.count S.accepted S.true_form S.possible_forms source.old source.new }
+    ensures same { SameSource S.count S.accepted S.true_form S.possible_forms source.old
+        source.new }
 
     // The advisors are asked for a Split at the least accepted point, and for nothing else.
     ensures asked { AreAskedNext ⟦<dyn Advisor as Advisor>⟧ (λ b. b.vtable) (λ b. state b)

@@ -106,7 +106,8 @@ pub(crate) fn are_values_accepted<S: RowSource>(
     // The point is as before, and the source accepts the same points with the same forms.
     ensures point { point.new ≡ point.old }
     ensures in_step { SameFor (S.in_step source.old) (S.in_step source.new) }
-    ensures same { SameSource S.count S.accepted S.true_form S.possible_forms source.old source.new }
+    ensures same { SameSource S.count S.accepted S.true_form S.possible_forms source.old
+        source.new }
 {
     if !is_within(point.values.as_slice(), costs.high.as_slice()) {
         return false;

@@ -65,8 +65,8 @@ fn resolve_each_line(
 
 /// Tests that each line of a layout's request file can be resolved.
 fn check_lines<'a>(alloc: Global, layout: &Layout, words: FileWords<'a>) -> Result<(), Stop<'a>>
-    ensures { IsReadAs (lines_read (files_named words.entry) layout.now.request_file layout.now.lsdb) []
-        (λ _ none. none ≡ tt) result }
+    ensures { IsReadAs (lines_read (files_named words.entry) layout.now.request_file
+        layout.now.lsdb) [] (λ _ none. none ≡ tt) result }
 {
     match resolve_each_line(alloc, &layout.request_file, &layout.lsdb) {
         Ok(()) => Ok(()),

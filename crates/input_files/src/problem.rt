@@ -131,8 +131,8 @@ pub(crate) fn resolution<'a>(
     words: FileWords<'a>,
 ) -> Result<Problem, Stop<'a>>
     ensures present { IfOk result (λ p. view ≡ View.AtPresent → p.low ≡ []) }
-    ensures read { IsReadAs (problem_read view (files_named words.entry) request_file.now lsdb.now) []
-        (λ p read. p ≡ read) result }
+    ensures read { IsReadAs (problem_read view (files_named words.entry) request_file.now lsdb.now)
+        [] (λ p read. p ≡ read) result }
 {
     match resolve_in(alloc, view, request_file, lsdb) {
         Ok(problem) => Ok(problem),

@@ -73,8 +73,8 @@ impl SoFar {
     pub(crate) fn without(self, most: u32, tree: TotalTree) -> SoFar
         requires below { most < self.total }
         requires above { self.least ≤ most }
-        ensures holds { (p : DesignProblem) (top nodes cap : ℕ) → IsTotalSoFar p top nodes cap self →
-            IsRefutedWithin p top nodes cap most tree → IsTotalSoFar p top nodes cap result }
+        ensures holds { (p : DesignProblem) (top nodes cap : ℕ) → IsTotalSoFar p top nodes cap self
+            → IsRefutedWithin p top nodes cap most tree → IsTotalSoFar p top nodes cap result }
         ensures least { result.least ≡ most + 1 }
         ensures total { result.total ≡ self.total }
     {

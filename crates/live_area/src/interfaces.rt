@@ -44,7 +44,7 @@ fn router_ids(alloc: Global, lsas: &[Lsa]) -> Result<BTreeSet<u32>, OutOfMemory>
 }
 
 /// The number of the router of a link by its number, 0 where there is none.
-#[tactic(auto, using(crate::proofs::LineSteps::router_there, crate::proofs::LineSteps::router_missing))]
+#[tactic(auto, using(crate::proofs::LineSteps::routers_known))]
 fn router_of(links: &[Linked], link: usize) -> u32
     ensures { result ≡ router_of links.now link }
 {

@@ -106,8 +106,8 @@ fn least_text(
     least: &LeastParts<'_>,
     tree: Tree,
 ) -> Result<Vec<u8>, OutOfMemory>
-    requires { (top : ℕ) × (nodes : ℕ) × (nodes ≤ 10000000) × IsLeastConflictShown problem.now top nodes
-        least.now.members.now least.now.rows.now tree least.now.without.now }
+    requires { (top : ℕ) × (nodes : ℕ) × (nodes ≤ 10000000) × IsLeastConflictShown problem.now top
+        nodes least.now.members.now least.now.rows.now tree least.now.without.now }
     ensures { IfOk result (λ text. text.items ≡ conflict_text problem.now
         (Least least.now.members.now least.now.rows.now tree least.now.without.now)) }
 {

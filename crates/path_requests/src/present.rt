@@ -23,8 +23,8 @@ fn present_prices(
     names: &Names,
     request_file: &RequestFile,
 ) -> Result<Vec<Price>, OutOfMemory>
-    ensures { IfOk result (λ made. made.items ≡ map (λ link. Fixed (present_cost request_file.now link))
-        names.now.links) }
+    ensures { IfOk result (λ made. made.items ≡ map (λ link. Fixed (present_cost request_file.now
+        link)) names.now.links) }
 {
     let mut made = Vec::new(alloc);
     for link in names.links() {
@@ -40,8 +40,8 @@ pub fn assemble_present(
     request_file: &RequestFile,
     requests: Vec<Request>,
 ) -> Result<Problem, OutOfMemory>
-    requires requests { requests.items ≡ filter_map (λ item. request_of names.now (outline names.now)
-        item.what) request_file.now.items }
+    requires requests { requests.items ≡ filter_map (λ item. request_of names.now (outline
+        names.now) item.what) request_file.now.items }
     requires lines { line_faults names.now request_file.now.items ≡ [] }
     requires costs { cost_faults (present_asked request_file.now) names.now 0 names.now.links ≡ [] }
     ensures { IfOk result (λ problem. problem ≡ present_problem_of request_file.now names.now) }

@@ -77,8 +77,8 @@ fn resolve_whole(
     requests: Vec<Request>,
 ) -> Result<Problem, Refusal<ResolutionFault, ()>>
     requires lines { line_faults names.now request_file.now.items ≡ [] }
-    requires requests { requests.items ≡ filter_map (λ item. request_of names.now (outline names.now)
-        item.what) request_file.now.items }
+    requires requests { requests.items ≡ filter_map (λ item. request_of names.now (outline
+        names.now) item.what) request_file.now.items }
     ensures made { IfOk result (λ p. (whole_faults request_file.now names.now ≡ []) ×
         (p ≡ problem_of request_file.now names.now)) }
     ensures refused { IfErr result

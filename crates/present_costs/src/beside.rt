@@ -62,7 +62,8 @@ pub fn resolve_beside_present(
 ) -> Result<Problem, Refusal<ResolutionFault, ()>>
     ensures made { IfOk result (λ p. (fault_beside_present request_file.now lsdb.now ≡ None) ×
         (p ≡ problem_of request_file.now lsdb.now)) }
-    ensures refused { IfErr result (TellsResolution (fault_beside_present request_file.now lsdb.now)) }
+    ensures refused { IfErr result (TellsResolution (fault_beside_present request_file.now
+        lsdb.now)) }
 {
     match resolve(alloc, request_file, lsdb) {
         Ok(problem) => match first_without_cost(request_file, lsdb) {

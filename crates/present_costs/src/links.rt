@@ -22,7 +22,8 @@ pub fn costs_of_links(
     request_file: &RequestFile,
     lsdb: &Lsdb,
 ) -> Result<Vec<u16>, OutOfMemory>
-    ensures { IfOk result (λ costs. costs.items ≡ map (present_cost request_file.now) lsdb.now.links) }
+    ensures { IfOk result (λ costs. costs.items ≡ map (present_cost request_file.now)
+        lsdb.now.links) }
 {
     let mut costs = Vec::new(alloc);
     for link in lsdb.links() {

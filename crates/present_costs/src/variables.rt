@@ -85,10 +85,8 @@ fn noted_of_links(
     count: usize,
 ) -> Result<Vec<Noted>, OutOfMemory>
     requires { graph.now ≡ (problem_of request_file.now lsdb.now).graph }
-    ensures { IfOk result
-        (λ noted. noted.items ≡
-        map (λ k. noted_after Nothing (costs_of_variable request_file.now lsdb.now k 0 lsdb.now.links))
-        (numbers_from 0 count)) }
+    ensures { IfOk result (λ noted. noted.items ≡ map (λ k. noted_after Nothing (costs_of_variable
+        request_file.now lsdb.now k 0 lsdb.now.links)) (numbers_from 0 count)) }
 {
     let mut noted = nothing_noted(alloc, count)?;
     for (i, link) in lsdb.links().iter().enumerate() {

@@ -83,8 +83,8 @@ fn new_pairs(
     numbers: &[u64],
 ) -> Result<Vec<(u64, u128)>, OutOfMemory>
     requires { All (λ part. part.0 < length numbers.now) parts.now }
-    ensures { IfOk result (λ pairs. pairs.items ≡ map (renumbered_multiplier (number_given numbers.now))
-        parts.now) }
+    ensures { IfOk result (λ pairs. pairs.items ≡ map (renumbered_multiplier (number_given
+        numbers.now)) parts.now) }
 {
     let mut pairs = Vec::new(alloc);
     for (row, multiplier) in parts {

@@ -70,11 +70,11 @@ fn deviation_cost(
         place)).from }
 
     // It is what the cheapest walk costs that leaves the path by the edge, None where none does.
-    ensures { MatchOption result ((total : ℕ) → DeviatesFromPath outlook.now.graph.now outlook.now.point.now
-        outlook.now.request.now.excluded room.now outlook.now.request.now.path.edges place number
-        total → ⊥) (λ total. DeviatesFromPath outlook.now.graph.now outlook.now.point.now
-        outlook.now.request.now.excluded room.now outlook.now.request.now.path.edges place number
-        total) }
+    ensures { MatchOption result ((total : ℕ) → DeviatesFromPath outlook.now.graph.now
+        outlook.now.point.now outlook.now.request.now.excluded room.now
+        outlook.now.request.now.path.edges place number total → ⊥) (λ total. DeviatesFromPath
+        outlook.now.graph.now outlook.now.point.now outlook.now.request.now.excluded room.now
+        outlook.now.request.now.path.edges place number total) }
 {
     if number == outlook.request.path.edges.as_slice()[place] {
         return None;
@@ -137,8 +137,10 @@ fn best_at(
     requires near { before < 2 ^ 26 * outlook.now.point.now.scale }
 
     // `best` is the best of the deviations before the place, and the result of those up to it.
-    requires best { IsBestDeviationFromPath outlook.now room.now (λ earlier e. earlier < place) best }
-    ensures { IsBestDeviationFromPath outlook.now room.now (λ earlier e. earlier < place + 1) result }
+    requires best { IsBestDeviationFromPath outlook.now room.now (λ earlier e. earlier < place)
+        best }
+    ensures { IsBestDeviationFromPath outlook.now room.now (λ earlier e. earlier < place + 1)
+        result }
 {
     outlook.graph.keeps_conditions();
     let named = outlook.request.path.edges.as_slice()[place];

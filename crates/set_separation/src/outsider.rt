@@ -175,10 +175,10 @@ pub fn find_outsider_at_hand(
     }
 }
 
-/// Whether some wanted paths, which cost the same at a point, lead there by the scale: each outsider costs at least what
-/// they and the scale do. The request, the tree and `costs` are as in `find_outsider`; the room has the distances to the
-/// request's end that are below that, or more of them, as another request with that end and the same excluded edges may
-/// have left them. Takes no memory.
+/// Whether some wanted paths, which cost the same at a point, lead there by the scale: each outsider costs at least
+/// what they and the scale do. The request, the tree and `costs` are as in `find_outsider`; the room has the distances
+/// to the request's end that are below that, or more of them, as another request with that end and the same excluded
+/// edges may have left them. Takes no memory.
 pub fn paths_lead(outlook: &Outlook<'_>, tree: &PrefixTree, costs: &mut [u128], room: &Room) -> bool
     // The room has the distances below what the request's path and the scale cost at the point.
     requires fits { FitsOutlook outlook.now }

@@ -233,8 +233,8 @@ impl SetAsker {
         look(&outlook, limit, &mut self.room)
     }
 
-    /// Whether the members of the set at a place of the order, which tie, lead by the scale: each outsider costs at least
-    /// what they and the scale do. The room has the distances that serve the set.
+    /// Whether the members of the set at a place of the order, which tie, lead by the scale: each outsider costs at
+    /// least what they and the scale do. The room has the distances that serve the set.
     fn leads_at(&mut self, survey: &SetSurvey<'_>, place: usize) -> bool
         // The asker is one for these sets, the point is one of costs, and the order has the place.
         requires asker { IsAskerOfSets survey.now.problem.now survey.now.sets.now self.old }

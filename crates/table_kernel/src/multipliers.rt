@@ -41,7 +41,8 @@ impl Kernel {
         // The form at the place can't be made non-negative.
         requires kernel { IsKernel self.now }
         requires place { place < length self.now.constants.items }
-        requires refuting { IsRefutingForm self.now.table.basis.items (line_at (stated self.now) place) }
+        requires refuting { IsRefutingForm self.now.table.basis.items (line_at (stated self.now)
+            place) }
 
         // On Ok the multipliers refute the box, with at most one row more than there are variables.
         ensures refutes { IfOk result (λ parts. Refutes self.now.table.rows.items parts
