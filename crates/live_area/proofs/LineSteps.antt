@@ -45,6 +45,9 @@ router_missing links l at =
     sym (ap (λ (o : Option ℕ). unwrap_or o 0) (slice_get-map (λ (x : Linked). x.router) links l ∙ ap (option_map (λ (x : Linked). x.router)) at))
     ∙ unwrap_or-slice_get (map (λ (x : Linked). x.router) links) l 0
 
+-- the router of a link, where it is there and where it isn't
+pub ruleset routers_known = (router_there, router_missing)
+
 -- one interface more
 pub compared_step : (lsas : List Lsa) (all : List LiveLink) (links : List Linked) (costs : List ℕ) (ends : List LinkEnd) (i : ℕ) (d : LinkEnd)
     (made : Compared) (olds news whole : List Compared) → i < length ends → news ≡ olds ++ made ∷ [] →
