@@ -11,7 +11,7 @@ ghost use Rattle.area_graph.specs.declared.Point.{Point};
 
 use area_graph::Point;
 use cost_base::{Listed, OutOfMemory};
-use design_problem::{Problem, Row, form_of};
+use design_problem::{Problem, Row, form_of, keeps_problem_on_graph};
 use form_search::{Asked, FormPool, RowSource};
 use rival_separation::Asker;
 use std::alloc::Global;
