@@ -1,4 +1,4 @@
-//! Lines of scripts of cases: their words, numbers, lists, bytes and texts.
+//! Scripts of cases: how one is played, and the words, numbers, lists, bytes and texts of its lines.
 #![tactic(auto)]
 
 ghost use Rattle.std.specs.Prelude.{◌≡◌, ℕ, List, [], ◌∷◌, ◌++◌, IfOk, OnOk};
@@ -7,9 +7,11 @@ ghost use Rattle.case_scripts.specs.Words.{AreListed, IsNextWord, IsNumberOrZero
 ghost use Rattle.case_scripts.specs.Escapes.{bytes_of, hex_byte, unescaped};
 
 mod entries;
+mod script;
 mod texts;
 
 pub use entries::{Line, Named, Part, Step};
+pub use script::{Script, play_all};
 use std::alloc::{AllocError, Global};
 use std::fmt;
 use std::str::{FromStr, SplitWhitespace};
