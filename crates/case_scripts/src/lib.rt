@@ -10,7 +10,7 @@ mod entries;
 mod script;
 mod texts;
 
-pub use entries::{Line, Named, Part, Step};
+pub use entries::{Entries, Named, Part, Step, Terms};
 pub use script::{Script, play_all};
 use std::alloc::{AllocError, Global};
 use std::fmt;
@@ -94,6 +94,19 @@ impl<'a, T: fmt::Display> fmt::Display for Written<'a, T> {
         write!(f, "{first}")?;
         for thing in rest {
             write!(f, ",{thing}")?;
+        }
+        Ok(())
+    }
+}
+
+/// A list as it is written, a blank before each thing.
+#[derive(Drop)]
+pub struct Spaced<'a, T>(pub &'a [T]);
+
+impl<'a, T: fmt::Display> fmt::Display for Spaced<'a, T> {
+    fn fmt<W: fmt::Write>(&self, f: &mut fmt::Formatter<W>) -> fmt::Result {
+        for thing in self.0 {
+            write!(f, " {thing}")?;
         }
         Ok(())
     }
