@@ -27,5 +27,6 @@ impl Script for Sentences {
 }
 
 fn main(rt: HostRuntime) -> io::Result<()> {
-    play_all(&rt, &mut Sentences)
+    let mut sentences = Sentences;
+    play_all(&rt, &mut sentences)
 }
