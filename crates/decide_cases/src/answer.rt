@@ -76,7 +76,9 @@ fn only(alloc: Global, problem: &Problem, members: &[u32]) -> Result<Option<Prob
 fn called(alloc: Global, problem: &Problem, asked: &Command) -> Result<String, OutOfMemory> {
     match asked {
         Command::Decide(cap, case_limits) => decide_text(alloc, problem, *cap, *case_limits),
-        Command::Told(cap, case_limits, count) => told_text(alloc, problem, *cap, *case_limits, *count),
+        Command::Told(cap, case_limits, count) => {
+            told_text(alloc, problem, *cap, *case_limits, *count)
+        }
         Command::Least(case_limits) => least_text(alloc, problem, *case_limits),
         Command::Show => problem_text(alloc, problem),
         Command::Ranges(cap) => ranges(alloc, problem, *cap),
