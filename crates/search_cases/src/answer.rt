@@ -7,9 +7,9 @@ ghost use Rattle.fraction_table.specs.declared.stage.Stage.TheVariants.{Ended};
 use crate::command::{Command, read_command};
 use crate::scene::{Scene, scene_of};
 use crate::search::search_text;
-use crate::words::{Members, MultiplierWords, Values};
+use crate::words::{Members, MultiplierWords};
 use area_graph::Point;
-use case_scripts::{Script, Step};
+use case_scripts::{Script, Spaced, Step};
 use cost_base::Listed;
 use design_problem::{CostBox, Form, Multipliers};
 use exact_simplex::Tableau;
@@ -112,8 +112,8 @@ fn point_text(alloc: Global, tableau: &Tableau, point: &mut Point) -> Result<Str
 {
     match tableau.point(point) {
         Ok(()) => format!(in alloc;
-            ": feasible, least point {}over {}",
-            Values(point.values.as_slice()),
+            ": feasible, least point{} over {}",
+            Spaced(point.values.as_slice()),
             point.scale
         ),
         Err(wide) => format!(in alloc; ": feasible, {}", Step(wide)),

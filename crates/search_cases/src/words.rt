@@ -1,4 +1,4 @@
-//! Lists as the program writes them: members of a basis, multipliers, values and forms.
+//! Lists as the program writes them: members of a basis, multipliers and forms.
 
 use case_scripts::{Named, Part, Terms};
 use design_problem::{Form, Member};
@@ -25,19 +25,6 @@ impl<'a> fmt::Display for MultiplierWords<'a> {
     fn fmt<W: fmt::Write>(&self, f: &mut fmt::Formatter<W>) -> fmt::Result {
         for (row, multiplier) in self.0 {
             write!(f, "{}", Part(*row, *multiplier))?;
-        }
-        Ok(())
-    }
-}
-
-/// Values, with a blank behind each.
-#[derive(Drop)]
-pub struct Values<'a>(pub &'a [u128]);
-
-impl<'a> fmt::Display for Values<'a> {
-    fn fmt<W: fmt::Write>(&self, f: &mut fmt::Formatter<W>) -> fmt::Result {
-        for value in self.0 {
-            write!(f, "{value} ")?;
         }
         Ok(())
     }
