@@ -5,11 +5,11 @@ ghost use Rattle.cost_branching.specs.Pools.{IsRowPool};
 use crate::advisors::Counting;
 use crate::command::CaseLimits;
 use crate::conditions::are_below;
-use case_scripts::Line;
+use case_scripts::{Entries, Spaced};
 use cost_base::{MemorySink, OutOfMemory};
 use cost_branching::{Found, Pool, decide};
 use cut_advisors::{Advisor, Candidate, choose};
-use design_problem::{Answer, Entry, Problem, Row};
+use design_problem::{Answer, Problem, Row};
 use evidence_text::put_answer;
 use least_bound::least;
 use std::alloc::{AllocError, Global};
@@ -32,42 +32,7 @@ struct Rows<'a>(&'a [Row]);
 impl<'a> fmt::Display for Rows<'a> {
     fn fmt<W: fmt::Write>(&self, f: &mut fmt::Formatter<W>) -> fmt::Result {
         for row in self.0 {
-            write!(f, "\n  row {}", row.request)?;
-            write_words(row.rival.as_slice(), f)?;
-        }
-        Ok(())
-    }
-}
-
-/// Numbers, with a blank before each.
-fn write_words<W: fmt::Write>(numbers: &[u32], f: &mut fmt::Formatter<W>) -> fmt::Result {
-    for number in numbers {
-        write!(f, " {number}")?;
-    }
-    Ok(())
-}
-
-/// The entries of a tree, each on a line of its own.
-#[derive(Drop)]
-struct Entries<'a>(&'a [Entry]);
-
-impl<'a> fmt::Display for Entries<'a> {
-    fn fmt<W: fmt::Write>(&self, f: &mut fmt::Formatter<W>) -> fmt::Result {
-        for entry in self.0 {
-            write!(f, "\n  {}", Line(entry))?;
-        }
-        Ok(())
-    }
-}
-
-/// Costs, with a blank before each.
-#[derive(Drop)]
-struct Costs<'a>(&'a [u16]);
-
-impl<'a> fmt::Display for Costs<'a> {
-    fn fmt<W: fmt::Write>(&self, f: &mut fmt::Formatter<W>) -> fmt::Result {
-        for cost in self.0 {
-            write!(f, " {cost}")?;
+            write!(f, "\n  row {}{}", row.request, Spaced(row.rival.as_slice()))?;
         }
         Ok(())
     }
@@ -77,7 +42,7 @@ impl<'a> fmt::Display for Costs<'a> {
 fn found_text(alloc: Global, found: &Found, rows: &[Row]) -> Result<String, OutOfMemory> {
     let (word, tree) = match found {
         Found::Costs(costs) => {
-            return Ok(format!(in alloc; ": costs{}", Costs(costs.as_slice()))?);
+            return Ok(format!(in alloc; ": costs{}", Spaced(costs.as_slice()))?);
         }
         Found::Refuted(tree) => ("refuted", tree),
         Found::Undecided(tree) => ("spent", tree),

@@ -1,7 +1,7 @@
 //! What the lines of a script say of a problem, before it is known to be one.
 
 use crate::conditions::is_problem;
-use area_graph::{Edge, Graph, Vertex, fits_graph};
+use area_graph::{Edge, Graph, Vertex, fits_graph, vertices_of};
 use cost_base::{Listed, Name, OutOfMemory};
 use design_problem::{Problem, Request, VarName};
 use std::alloc::Global;
@@ -51,14 +51,11 @@ impl Draft {
         routers: u32,
         subnets: u32,
     ) -> Result<Draft, OutOfMemory> {
-        let mut draft = Draft::new(alloc);
-        for number in 0..routers {
-            draft.vertices.push(Vertex::Router(number))?;
-        }
-        for number in 0..subnets {
-            draft.vertices.push(Vertex::Subnet(number))?;
-        }
-        Ok(draft)
+        Ok(Draft {
+            vertices: vertices_of(alloc, routers, subnets)?,
+            edges: Vec::new(alloc),
+            lists: Lists::new(alloc),
+        })
     }
 
     /// One more edge.
