@@ -4,6 +4,7 @@ use Rattle.std.specs.Prelude.{◌⊎◌, All, AllPairs, Contains, Option, None, 
 use Rattle.std.proofs.lemmas.List.{length-map}
 use Rattle.std.proofs.lemmas.List.Elements.{All-nil, All-cons, All-append, All-head, All-map, All-tail, All-weaker}
 use Rattle.std.proofs.lemmas.List.Kept.{AllPairs-cons}
+use Rattle.cost_base.proofs.ListLemmas.{pairs_head, pairs_tail}
 use Rattle.area_graph.specs.declared.Point.{Point}
 use Rattle.design_problem.specs.declared.form.CostBox.{CostBox}
 use Rattle.design_problem.specs.declared.form.Row.{Row}
@@ -30,7 +31,7 @@ use Rattle.printed_rows.proofs.CapBoxes.{cost_bounds}
 use Rattle.printed_rows.proofs.NamedLaws.{entries_agree, named_weaker}
 use Rattle.printed_rows.proofs.RenumberedTrees.{count_kept, earnest_names, undone_kept}
 use Rattle.printed_rows.proofs.RowLines.{rows_short}
-use Rattle.printed_rows.proofs.SheetLaws.{copy_sheet, pairs_first, pairs_left}
+use Rattle.printed_rows.proofs.SheetLaws.{copy_sheet}
 use Rattle.printed_rows.proofs.TreeCopies.{IsCopy, copy_closed, copy_names, copy_printable, copy_printed, printed_copy, search_names}
 use Rattle.least_total.specs.declared.printing.PoolForm.{PoolForm}
 use Rattle.least_total.specs.declared.printing.PoolForm.TheVariants.{OfRow, OfTotal}
@@ -269,9 +270,9 @@ forms_apart [] once = AllPairs-cons AreApart OfTotal [] (All-nil (AreApart OfTot
 forms_apart (row ∷ rows) once =
     let Apart : PoolForm → Type 0 = AreApart (OfRow row) in
     let others : All Apart (with_total_last rows) =
-    All-append Apart (map OfRow rows) (OfTotal ∷ []) (All-map Apart OfRow rows (pairs_first Differ row rows once))
+    All-append Apart (map OfRow rows) (OfTotal ∷ []) (All-map Apart OfRow rows (pairs_head Differ row rows once))
     (All-cons Apart OfTotal [] tt (All-nil Apart)) in
-    AllPairs-cons AreApart (OfRow row) (with_total_last rows) others (forms_apart rows (pairs_left Differ row rows once))
+    AllPairs-cons AreApart (OfRow row) (with_total_last rows) others (forms_apart rows (pairs_tail Differ row rows once))
 
 apart_rows : (row : Row) (forms : List PoolForm) → All (AreApart (OfRow row)) forms → All (Differ row) (rows_in forms)
 apart_rows row [] all = All-nil (Differ row)
@@ -283,9 +284,9 @@ apart_rows row (OfTotal ∷ forms) all = apart_rows row forms (All-tail (AreApar
 rows_apart : (forms : List PoolForm) → AllPairs AreApart forms → AllPairs Differ (rows_in forms)
 rows_apart [] once = λ i j d before j_in. absurd (omega (arith, j_in))
 rows_apart (OfRow row ∷ forms) once =
-    AllPairs-cons Differ row (rows_in forms) (apart_rows row forms (pairs_first AreApart (OfRow row) forms once))
-    (rows_apart forms (pairs_left AreApart (OfRow row) forms once))
-rows_apart (OfTotal ∷ forms) once = rows_apart forms (pairs_left AreApart OfTotal forms once)
+    AllPairs-cons Differ row (rows_in forms) (apart_rows row forms (pairs_head AreApart (OfRow row) forms once))
+    (rows_apart forms (pairs_tail AreApart (OfRow row) forms once))
+rows_apart (OfTotal ∷ forms) once = rows_apart forms (pairs_tail AreApart OfTotal forms once)
 
 rows_fewer : (forms : List PoolForm) → length (rows_in forms) ≤ length forms
 rows_fewer [] = omega arith

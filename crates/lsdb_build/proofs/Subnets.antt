@@ -5,13 +5,13 @@ use Rattle.std.proofs.lemmas.Bool.{false≢true, or_parts, and_parts, and_from, 
 use Rattle.std.proofs.lemmas.Option.{none-some, same_Some}
 use Rattle.std.proofs.lemmas.List.Elements.{All-nil, All-cons, All-head, All-tail, All-weaker}
 use Rattle.std.proofs.lemmas.List.Kept.{AllPairs-cons}
-use Rattle.cost_base.proofs.ListLemmas.{same_test}
+use Rattle.cost_base.proofs.ListLemmas.{same_test, pairs_nil}
 use Rattle.interface_model.specs.declared.Kind.{Kind}
 use Rattle.interface_model.specs.declared.Kind.TheVariants.{PointToPoint, Broadcast}
 use Rattle.interface_model.specs.Addresses.{subnet}
 use Rattle.lsdb_build.specs.Neighbours.{Port, shares_subnet, is_broadcast, first_members, place_from}
 use Rattle.lsdb_build.specs.Topology.{first_where, same_kind}
-use Rattle.lsdb_build.proofs.Pairs.{pair_at, pairs_nil}
+use Rattle.lsdb_build.proofs.Pairs.{pair_at}
 
 -- what it means to share a subnet
 pub record OneSubnet (p q : Port) : Type 0 where
