@@ -231,11 +231,11 @@ all_has P (y ∷ ys) x all (inl same) = subst P (sym same) (All-head P y ys all)
 all_has P (y ∷ ys) x all (inr has) = all_has P ys x (All-tail P y ys all) has
 
 -- what each of its beginnings has
-pub has_taken : (n : ℕ) (xs : List ℕ) (x : ℕ) → Has (take n xs) x → Has xs x
-has_taken zero xs x has = absurd has
-has_taken (suc n) [] x has = absurd has
-has_taken (suc n) (y ∷ ys) x (inl same) = inl same
-has_taken (suc n) (y ∷ ys) x (inr has) = inr (has_taken n ys x has)
+pub taken_has : (n : ℕ) (xs : List ℕ) (x : ℕ) → Has (take n xs) x → Has xs x
+taken_has zero xs x has = absurd has
+taken_has (suc n) [] x has = absurd has
+taken_has (suc n) (y ∷ ys) x (inl same) = inl same
+taken_has (suc n) (y ∷ ys) x (inr has) = inr (taken_has n ys x has)
 
 -- what the second of two lists has
 pub has_right : (xs ys : List ℕ) (x : ℕ) → Has ys x → Has (xs ++ ys) x

@@ -9,6 +9,7 @@ use Rattle.whole_numbers.proofs.Ring.{var, ◌⊖◌, ◌⊗◌, ring}
 use Rattle.std.proofs.lemmas.Bool.{cases_eq}
 use Rattle.cost_base.specs.Lists.{Has}
 use lib.IntN.{zero-*ℤ}
+use Rattle.cost_base.proofs.ListLemmas.{has_at}
 use Rattle.whole_numbers.specs.Lists.{number_at}
 use Rattle.design_problem.specs.Basis.{LeadsPositive}
 use Rattle.fraction_table.specs.Pivots.{LeadsNoNegative, numbers_in_column, turned_column}
@@ -16,7 +17,6 @@ use Rattle.fraction_table.proofs.ColumnOrders.{prefix_leads, zeros_lead, column_
 use Rattle.integer_pivots.specs.Choices.{AreLatest, AreLeast, IsPositiveAt, crosswise}
 use Rattle.integer_pivots.specs.Leads.{AreLeads, IsLead}
 use Rattle.integer_pivots.specs.Numbers.{AllWithin}
-use Rattle.integer_pivots.proofs.Narrowing.{has_at}
 use Rattle.integer_pivots.specs.declared.line.Line.{Line}
 use Rattle.integer_pivots.specs.Lines.{no_line, rows_of}
 use Rattle.integer_pivots.proofs.LineReads.{numbers_small}
