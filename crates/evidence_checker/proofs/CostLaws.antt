@@ -5,6 +5,7 @@ use Rattle.std.specs.List.{AllZip}
 use Rattle.std.proofs.lemmas.List.{length-replicate}
 use native.Mathlib.Decide.{ℕ_discrete}
 use Rattle.std.proofs.lemmas.List.Elements.{All-tail}
+use Rattle.std.proofs.lemmas.Option.{same_Some}
 use Rattle.cost_base.proofs.ListLemmas.{drop_read}
 use Rattle.design_problem.specs.declared.answer.CostLine.{CostLine}
 use Rattle.design_problem.specs.declared.problem.VarName.{VarName}
@@ -90,9 +91,6 @@ lesser_most : (least : Option ℕ) (v : ℕ) → lesser_of least v ≤ v
 lesser_most None v = omega arith
 lesser_most (Some least) v = omega arith
 
-some_same : (a b : ℕ) → Some a ≡ Some b → a ≡ b
-some_same a b e = cc
-
 min_cases : (least v : ℕ) → (lesser_of (Some least) v ≡ least) ⊎ (lesser_of (Some least) v ≡ v)
 min_cases least v = grind arith
 
@@ -118,7 +116,7 @@ off_more costs names lines k least name line name_in line_in name_is line_is dif
     (subst (λ (ns : List VarName). GivesCost ns (line ∷ drop (k + 1) lines) name.var line.cost) (sym names_read) (inl (refl, refl)))) in
     let here : IsOff costs names lines name.var = (line.cost, given, differs) in
     record {
-      found = λ var e. subst (λ (v : ℕ). IsOff costs names lines v) (some_same _ _ e) (lesser_found (IsOff costs names lines) least name.var so_far.found here);
+      found = λ var e. subst (λ (v : ℕ). IsOff costs names lines v) (same_Some _ _ e) (lesser_found (IsOff costs names lines) least name.var so_far.found here);
       others = λ var off.
           elim (so_far.others var off) [
             | inl most ↦ inl (at_most_lesser least name.var var most)
