@@ -9,7 +9,7 @@ use Rattle.evidence_reader.specs.declared.fault.AnswerFault.{AnswerFault}
 use Rattle.text_lines.proofs.LineLaws.{with_ends-append}
 use Rattle.evidence_reader.specs.Refusals.{IsTextRefused, IsReaderStop}
 
-lead-then : (from mid to : TextPlace) (xs ys : List (List ℕ)) → LeadOn from xs mid → LeadOn mid ys to → LeadOn from (xs ++ ys) to
+pub lead-then : (from mid to : TextPlace) (xs ys : List (List ℕ)) → LeadOn from xs mid → LeadOn mid ys to → LeadOn from (xs ++ ys) to
 lead-then from mid to [] ys first second = subst (λ p. LeadOn p ys to) (sym first) second
 lead-then from mid to (x ∷ xs) ys first second = (first.0, first.1, lead-then first.0 mid to xs ys first.2 second)
 

@@ -33,6 +33,7 @@ use Rattle.answer_lines.proofs.LineEntries.{pieces-entry}
 use Rattle.answer_lines.proofs.LineFronts.{split-front}
 use Rattle.answer_lines.proofs.LineWords.{row-words}
 use Rattle.answer_lines.proofs.SpacedWords.{spaceless-from, decimal-spaceless, split-spaced}
+use Rattle.answer_lines.proofs.RatioWords.{integer-unslashed}
 
 -- a word that isn't all digits is no number's
 pub no_digits : (w : List ℕ) (n : ℕ) → list_all is_digit w ≡ false → w ≡ decimal n → ⊥
@@ -147,10 +148,6 @@ digits-lack c (d ∷ ds) other digits =
     let parts = and_parts (is_digit d) (list_all is_digit ds) digits in
     All-cons (λ x. eqb x c ≡ false) d ds (ne_eqb d c (λ e. not-both (is_digit c) (ap is_digit (sym e) ∙ parts.0) other)) (digits-lack c ds other parts.1)
 
-integer-slashless : (z : ℤ) → All (λ x. eqb x 47 ≡ false) (integer z)
-integer-slashless (pos n) = digits-lack 47 (decimal n) refl (decimal-digits n)
-integer-slashless (negsuc n) = All-cons (λ x. eqb x 47 ≡ false) 45 (decimal (n + 1)) refl (digits-lack 47 (decimal (n + 1)) refl (decimal-digits (n + 1)))
-
 -- a word without a byte is its only piece
 split-only : (c : ℕ) (w : List ℕ) → All (λ x. eqb x c ≡ false) w → split c w ≡ w ∷ []
 split-only c [] others = refl
@@ -174,7 +171,7 @@ ratio-back q =
     let above : List ℕ = integer q.numerator in
     let below : List ℕ = integer q.denominator in
     let cut : split 47 (ratio_word q) ≡ above ∷ below ∷ [] =
-    split-front 47 above below (integer-slashless q.numerator) ∙ ap (λ l. above ∷ l) (split-only 47 below (integer-slashless q.denominator)) in
+    split-front 47 above below (integer-unslashed q.numerator) ∙ ap (λ l. above ∷ l) (split-only 47 below (integer-unslashed q.denominator)) in
     ap ratio_of_pieces cut ∙ together (integer_of above) q.numerator (integer_of below) q.denominator (integer-back q.numerator) (integer-back q.denominator)
   where
     together : (a c b d : ℤ) → a ≡ c → b ≡ d → ratio a b ≡ ratio c d
