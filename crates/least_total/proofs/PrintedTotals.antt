@@ -14,12 +14,11 @@ use Rattle.design_problem.specs.Problems.{DesignProblem}
 use Rattle.design_problem.specs.Forms.{Form, form_at}
 use Rattle.design_problem.specs.Boxes.{capped}
 use Rattle.design_problem.specs.Rows.{IsRow, box_of, form_of_row, forms_of_rows}
-use Rattle.design_problem.specs.Trees.{IsClosed, Sound, SoundAt, entry_count, subboxes}
+use Rattle.design_problem.specs.Trees.{IsClosed, entry_count}
 use Rattle.design_problem.specs.Text.{row_line}
 use Rattle.design_problem.specs.Earnest.{Earnest, OpenPlace}
 use Rattle.design_problem.specs.Renumbering.{IsRenumbering, renumbered}
-use Rattle.design_problem.proofs.OpenPlaces.{opens_ends, earnest_opens}
-use Rattle.design_problem.proofs.Renumbering.{forms_kept, opens_kept, renumbered_sound, renumbered_tree, same_entry, same_entries}
+use Rattle.design_problem.proofs.Renumbering.{renumbered_tree, same_entries, tree_more, sound_more}
 use Rattle.design_problem.specs.SearchTrees.{IsSearchTree}
 use Rattle.printed_rows.specs.NamedRows.{NamesBelow, is_row_named}
 use Rattle.printed_rows.specs.NewNumbers.{IsTreePrinted, kept_from, kept_rows, new_number}
@@ -47,24 +46,11 @@ use Rattle.least_total.proofs.MovedTrees.{moved_closed, moved_count, moved_tree,
 
 -- A search's tree, once the form of the total has been moved.
 
--- more forms leave a search's tree as it is
-search_more : (accepts : Point → Type 0) (top : ℕ) (forms more : List Form) (box : CostBox) (tree : List Entry) →
-    IsSearchTree accepts top forms box tree → IsSearchTree accepts top (forms ++ more) box tree
-search_more accepts top forms more box tree holds =
-    let places : List OpenPlace = record { box = box; since = [] } ∷ [] in
-    record {
-      earnest = opens_ends accepts top (forms ++ more) places tree
-          (opens_kept accepts top forms more places tree []
-          (earnest_opens accepts top forms places tree holds.earnest));
-      last = holds.last;
-      short = holds.short;
-    }
-
 search_moved : (accepts : Point → Type 0) (top : ℕ) (fs : List Form) (f : Form) (before : Option ℕ) (others : ℕ)
     (box : CostBox) (tree : List Entry) → others ≡ length fs → IsPlaceIn others before →
     IsSearchTree accepts top (with_form before f fs) box tree →
     IsSearchTree accepts top (fs ++ f ∷ []) box (moved_from before others tree)
-search_moved accepts top fs f None others box tree count place holds = search_more accepts top fs (f ∷ []) box tree holds
+search_moved accepts top fs f None others box tree count place holds = tree_more accepts top fs (f ∷ []) box tree holds
 search_moved accepts top fs f (Some k) others box tree count place holds =
     subst (λ (n : ℕ). IsSearchTree accepts top (fs ++ f ∷ []) box (moved_from (Some k) n tree)) (sym count)
     (moved_tree accepts top fs f k box tree (omega arith) holds)
@@ -166,15 +152,6 @@ shifted_keeps fs more f = record {
   known = λ row below. shifted_known fs more f row below;
   same = λ row below. shifted_same fs more f row;
 }
-
-sound_more : (forms more : List Form) (boxes : List CostBox) (entries : List Entry) → Sound forms boxes entries → Sound (forms ++ more) boxes entries
-sound_more forms more [] [] sound = tt
-sound_more forms more (box ∷ boxes) [] sound = absurd sound
-sound_more forms more [] (e ∷ entries) sound = absurd sound
-sound_more forms more (box ∷ boxes) (e ∷ entries) sound = (
-  subst (SoundAt (forms ++ more) box) (same_entry e) (renumbered_sound (λ row. row) forms (forms ++ more) box e (forms_kept forms more) sound.0),
-  sound_more forms more (subboxes box e ++ boxes) entries sound.1,
-)
 
 -- a printed tree is one with a form more behind its own
 pub over_more : (accepts : Point → Type 0) (IsTrueForm : Form → Type 0) (top nodes : ℕ) (forms : List Form) (f : Form)

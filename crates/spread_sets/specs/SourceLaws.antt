@@ -222,15 +222,6 @@ set_forms_listed p sets form is =
 
 -- Sets that share at multiples of costs share at the costs.
 
--- numbers whose multiples by the scale are equal: the one is at most the other
-same_less : (a b scale : ℕ) → 0 < scale → a * scale ≡ b * scale → a ≤ b
-same_less a b scale some same = divided_less a b scale some (omega arith)
-  where
-    divided_less : (a b scale : ℕ) → 0 < scale → a * scale + scale ≤ b * scale + scale → a ≤ b
-    divided_less a b scale some more =
-        (let found = multiple_divided a (b + 1) scale some (let e : (b + 1) * scale ≡ b * scale + scale = omega arith in
-        omega arith) in omega arith)
-
 -- a set that shares at multiples of costs shares at the costs
 set_free : (p : DesignProblem) (w : List ℕ) (scale : ℕ) (set : List ℕ) → 0 < scale → Shares p (scaled w scale) set → Shares p (at_costs w) set
 set_free p w scale set some shares = record {
