@@ -50,7 +50,7 @@ set_marks side begun run marks var count above are v v_in =
           (λ less. subst (λ (u : ℕ). Contains ((var, side) ∷ run) (u, side)) (sym same) (contains_head run (var, side)), λ has. rw here above)
       | no other ↦
           let here : slice_index (slice_set marks var count) v ≡ slice_index marks v = get_or-set_other marks var v count 0 other in (
-            λ less. contains_later (var, side) run (v, side) ((are v known).0 (rw here at less)),
+            λ less. contains_later {X = ℕ × Side} (var, side) run (v, side) ((are v known).0 (rw here at less)),
             λ has. rw here ((are v known).1 (contains_other run (var, side) (v, side) (λ e. other (sym (ap (λ (p : ℕ × Side). p.0) e))) has)),
           )
     ]
@@ -59,7 +59,7 @@ set_marks side begun run marks var count above are v v_in =
 kept_marks : (side other : Side) (begun : ℕ) (run : List (ℕ × Side)) (marks : List ℕ) (var : ℕ) → (other ≡ side → ⊥) →
     AreSideMarks side begun run marks → AreSideMarks side begun ((var, other) ∷ run) marks
 kept_marks side other begun run marks var apart are v v_in = (
-  λ less. contains_later (var, other) run (v, side) ((are v v_in).0 less),
+  λ less. contains_later {X = ℕ × Side} (var, other) run (v, side) ((are v v_in).0 less),
   λ has. (are v v_in).1 (contains_other run (var, other) (v, side) (λ e. apart (ap (λ (p : ℕ × Side). p.1) e)) has),
 )
 

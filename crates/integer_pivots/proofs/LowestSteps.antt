@@ -47,6 +47,7 @@ pub after_same : (turn : Turn) (pivots : ℕ) (entering line other : Line) (c : 
 after_same turn pivots entering line other c same =
     ap (λ (z : ℤ). if c == pivots then turn.factor *ℤ entering.denominator else turned_number turn z (number_at entering.numbers c)) same
 
+-- the size of a line's denominator
 pub line_denominator : (line : Line) → IsLine line → nat_abs line.denominator ≤ 2 ^ 30
 line_denominator line is = positive_size line.denominator (2 ^ 30) (is.positive, is.denominator)
 
