@@ -1,6 +1,5 @@
 -- What words say is read off them: equal words say the same.
-use Rattle.std.proofs.Common.{◌≡◌, ℕ, ◌+◌, ◌-◌, List, [], ◌∷◌, All, map, codes, eqb, cond, true, false, ℤ, pos, negsuc, refl, sym, ap, ◌∙◌, arith}
-use Rattle.std.proofs.lemmas.Bool.{and_parts, ne_eqb}
+use Rattle.std.proofs.Common.{◌≡◌, ℕ, ◌+◌, ◌-◌, List, [], ◌∷◌, All, map, codes, eqb, cond, false, ℤ, pos, negsuc, refl, sym, ap, ◌∙◌, arith}
 use Rattle.std.proofs.lemmas.List.{append_cancel_left}
 use Rattle.std.proofs.lemmas.List.Elements.{All-nil, All-cons, All-head, All-tail}
 use Rattle.std.specs.List.{list_all}
@@ -140,13 +139,6 @@ integer-back (pos n) = rw (decimal-digits n) (ap pos (decimal_value-decimal n))
 integer-back (negsuc n) =
     let less : n + 1 - 1 ≡ n = omega arith in
     ap (λ m. negsuc (m - 1)) (decimal_value-decimal (n + 1)) ∙ ap negsuc less
-
--- digits hold no other byte
-digits-lack : (c : ℕ) (w : List ℕ) → is_digit c ≡ false → list_all is_digit w ≡ true → All (λ x. eqb x c ≡ false) w
-digits-lack c [] other digits = All-nil (λ x. eqb x c ≡ false)
-digits-lack c (d ∷ ds) other digits =
-    let parts = and_parts (is_digit d) (list_all is_digit ds) digits in
-    All-cons (λ x. eqb x c ≡ false) d ds (ne_eqb d c (λ e. not-both (is_digit c) (ap is_digit (sym e) ∙ parts.0) other)) (digits-lack c ds other parts.1)
 
 -- a word without a byte is its only piece
 split-only : (c : ℕ) (w : List ℕ) → All (λ x. eqb x c ≡ false) w → split c w ≡ w ∷ []
