@@ -1,6 +1,6 @@
 -- Words that are numbers.
 use Rattle.std.proofs.Common.{◌≡◌, ◌≢◌, ℕ, ◌≤◌, List, [], ◌∷◌, ◌++◌, All, map, arith, sym}
-use Rattle.std.proofs.lemmas.List.Elements.{All-nil, All-cons, All-head, All-tail, All-append}
+use Rattle.std.proofs.lemmas.List.Elements.{All-head, All-tail}
 use Rattle.cost_base.specs.Decimal.{decimal}
 use Rattle.design_problem.specs.AnswerRanges.{IsIndex}
 
@@ -13,7 +13,3 @@ no_number [] (n ∷ ns) left all e some none =
     none n (map decimal ns) (omega arith) (sym e)
 no_number (x ∷ xs) [] left all e some none = cc
 no_number (x ∷ xs) (n ∷ ns) left all e some none = no_number xs ns left (All-tail IsIndex n ns all) (cc) some none
-
--- one more element
-pub All-more : {A : Type 0} (P : A → Type 0) (xs : List A) (x : A) → All P xs → P x → All P (xs ++ x ∷ [])
-All-more P xs x all here = All-append P xs (x ∷ []) all (All-cons P x [] here (All-nil P))

@@ -6,7 +6,7 @@ use Rattle.std.proofs.lemmas.List.{get_or_default, length_push, map_push}
 use Rattle.std.proofs.lemmas.List.Elements.{All-nil, All-push, Contains-get_or}
 use Rattle.std.proofs.lemmas.List.Folds.{list_any-append}
 use Rattle.cost_base.specs.Lists.{numbers_from}
-use Rattle.cost_base.proofs.ListLemmas.{filter-numbers_from-agree, none_twice_push}
+use Rattle.cost_base.proofs.ListLemmas.{filter-numbers_from-agree, none_twice_push, all_has}
 use Rattle.cost_base.specs.Marks.{is_marked, is_one_of}
 use Rattle.cost_base.proofs.MarkLaws.{has_one_of, one_of_has}
 use Rattle.change_steps.specs.declared.kinds.Kind.{Kind}
@@ -22,7 +22,7 @@ use Rattle.change_steps.specs.States.{AreAllReached, IsAnotherReached, MayFollow
 use Rattle.change_steps.specs.Outcomes.{AreStepsFound, HasNoOrder, IsBarrier, IsStateBudgetUsedUp, IsGreatest, IsOutcome, IsSearchEnd, done_count}
 use Rattle.change_steps.specs.Search.{AreBlockedIn, HeldRollout, IsSearch, Position, last_steps, order_behind_first, way_state}
 use Rattle.change_steps.specs.Walks.{IsComplete, IsUnderWay}
-use Rattle.change_steps.proofs.Keeping.{known_if, lacks_unless}
+use Rattle.change_steps.proofs.Keeping.{lacks_unless}
 use Rattle.change_steps.proofs.MarkLaws.{done_count_of, marks_at, marks_push}
 use Rattle.change_steps.proofs.OrderLaws.{line_ends, passes_that, that_passes}
 use Rattle.change_steps.proofs.NoOrder.{no_order}
@@ -45,7 +45,7 @@ complete_order p w order rollout held is same = subst (λ (xs : List ℕ). IsSaf
     (line_ends p.rollout p.held (order_behind_first p w.order.items) rollout held is.walk.search.line
     (λ k has. elim (one_of_both (first_steps p.rollout p.held) w.order.items k has) [
       | inl first ↦ first_not_last (kind_of_step p.rollout p.held k) (that_passes p.rollout (λ i. comes_first (kind_of_step p.rollout p.held i)) k first).1
-      | inr between ↦ ap comes_last (known_if (λ i. kind_of_step p.rollout p.held i ≡ Between) w.order.items k is.walk.search.between (one_of_has w.order.items k between))
+      | inr between ↦ ap comes_last (all_has (λ i. kind_of_step p.rollout p.held i ≡ Between) w.order.items k is.walk.search.between (one_of_has w.order.items k between))
     ])
     (λ k within not_last. elim (cases_Bool (is_one_of (order_behind_first p w.order.items) k)) [
       | inl has ↦ has

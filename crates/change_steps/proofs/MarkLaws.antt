@@ -8,14 +8,13 @@ use Rattle.std.proofs.lemmas.List.Elements.{All-head, All-tail}
 use Rattle.std.proofs.lemmas.List.Folds.{list_any-append}
 use Rattle.std.proofs.lemmas.List.Sums.{sum_by-set}
 use Rattle.cost_base.specs.Lists.{NoneTwice, numbers_from}
-use Rattle.cost_base.proofs.ListLemmas.{get_or-map-numbers_from, length-map-numbers_from}
+use Rattle.cost_base.proofs.ListLemmas.{get_or-map-numbers_from, length-map-numbers_from, has_lacks}
 use Rattle.cost_base.specs.Marks.{is_marked, is_one_of}
 use Rattle.cost_base.proofs.MarkLaws.{one_of_has}
 use Rattle.change_steps.specs.Rollouts.{Rollout, step_count}
 use Rattle.change_steps.specs.Orders.{IsSafe}
 use Rattle.change_steps.specs.States.{marks_of}
 use Rattle.change_steps.specs.Outcomes.{done_count}
-use Rattle.change_steps.proofs.Keeping.{has_lacks}
 use Rattle.change_steps.proofs.StateCosts.{safe_agree}
 
 pub length-marks_of : (r : Rollout) (f : ℕ → Bool) → length (marks_of r f) ≡ step_count r

@@ -2,7 +2,7 @@
 use Rattle.std.proofs.Common.{◌≡◌, ℕ, ◌+◌, ◌<◌, refl, sym, ◌∙◌, ap, subst, List, [], ◌++◌, All, length, get_or, set, take, drop, inl, inr, arith, Bool, true, false, ◌||◌, ◌&&◌}
 use Rattle.std.specs.Prelude.{not, ◌==◌}
 use Rattle.std.proofs.Math.Bool.{or_assoc}
-use Rattle.std.proofs.lemmas.Bool.{and_from, and_parts, both_ways, cases_lt, not_from_false, not-true, false≢true}
+use Rattle.std.proofs.lemmas.Bool.{and_from, and_parts, both_ways, cases_lt, not_from_false, not-true, false≢true, and_right}
 use Rattle.std.proofs.lemmas.List.{drop_more, take-append-drop}
 use Rattle.std.proofs.lemmas.List.Folds.{list_all_at, list_all_more, list_any_more}
 use Rattle.std.specs.List.{list_all}
@@ -104,10 +104,6 @@ fallen_more r held marks lines i within known are fall left so_far =
     (off_held r held marks (get_or lines i 0) are known left))
 
 -- a line of another kind, and one that is on a held path
-and_no : (a b : Bool) → b ≡ false → (a && b) ≡ false
-and_no true b is = is
-and_no false b is = refl
-
 fails_at : (p : ℕ → Bool) (xs : List ℕ) (i : ℕ) → i < length xs → p (get_or xs i 0) ≡ false → false ≡ list_all p xs
 fails_at p xs i within here = sym (list_all_at p xs i 0 within here)
 
@@ -126,7 +122,7 @@ pub not_off : (r : Rollout) (held : List ℕ) (marks : List Bool) (lines : List 
     false ≡ list_all (λ v. test v && not (lies_on_held r held v)) lines
 not_off r held marks lines i test within known are marked =
     fails_at (λ v. test v && not (lies_on_held r held v)) lines i within
-    (and_no (test (get_or lines i 0)) (not (lies_on_held r held (get_or lines i 0))) (ap not (sym (are.told (get_or lines i 0) known) ∙ marked)))
+    (and_right (test (get_or lines i 0)) (not (lies_on_held r held (get_or lines i 0))) (ap not (sym (are.told (get_or lines i 0) known) ∙ marked)))
 
 -- Steps that may follow.
 

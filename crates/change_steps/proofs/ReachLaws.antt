@@ -3,7 +3,7 @@ use Rattle.std.proofs.Common.{◌≡◌, ℕ, ◌+◌, ◌*◌, ◌<◌, ◌≤�
 use Rattle.std.proofs.lemmas.Bool.{both_ways, cases_Bool, cases_lt, cond-false, cond-true}
 use Rattle.std.proofs.lemmas.List.{get_or_append_left, get_or_at, get_or_default, get_or_past, length_push}
 use Rattle.cost_base.specs.Lists.{Has}
-use Rattle.cost_base.proofs.ListLemmas.{all_kept, get_or-map-numbers_from, kept_all, length-map-numbers_from}
+use Rattle.cost_base.proofs.ListLemmas.{all_kept, get_or-map-numbers_from, kept_all, length-map-numbers_from, all_has}
 use Rattle.cost_base.specs.Marks.{is_marked, is_one_of}
 use Rattle.cost_base.proofs.MarkLaws.{has_one_of, one_of_has}
 use Rattle.area_graph.specs.declared.Edge.{Edge}
@@ -21,7 +21,7 @@ use Rattle.change_steps.specs.Rollouts.{CostMoves, IsInterfaceCost, IsRollout, R
 use Rattle.change_steps.specs.Orders.{IsOnlyIn, costs_in, is_changed}
 use Rattle.change_steps.specs.Search.{HasMore}
 use Rattle.change_steps.specs.Reaches.{AreLeastToEach, AreDearerOver, AreLeastTo, IsHarmless, IsReach, least_from_to, edges_of_step, has_price, least_cost, least_costs, price_rises}
-use Rattle.change_steps.proofs.Keeping.{known_if, only_unless, paid, pays_more}
+use Rattle.change_steps.proofs.Keeping.{only_unless, paid, pays_more}
 use Rattle.change_steps.proofs.Passages.{costs_over}
 use Rattle.change_steps.proofs.StateCosts.{changed_if, cost_at, cost_changed, cost_left, costs_le, price_le}
 use Rattle.change_steps.proofs.KindLaws.{between_costs, same_change}
@@ -210,7 +210,7 @@ harmless_only r f g step k is more harmless only =
     ])
   where
     known : (e : ℕ) → Has (request_at r.requests k).path.edges e → e < length r.graph.edges
-    known e has = known_if (λ i. i < length r.graph.edges) (request_at r.requests k).path.edges e
+    known e has = all_has (λ i. i < length r.graph.edges) (request_at r.requests k).path.edges e
         (joined_known r.graph (request_ends (request_at r.requests k)).start (request_at r.requests k).path.edges (request_ends (request_at r.requests k)).end only.path.simple.joins) has
 
     at : (e : ℕ) → e < length r.graph.edges → has_price (lines_of_step r.moves step) (edge_at r.graph e).price ≡ true → IsHarmless r g k e

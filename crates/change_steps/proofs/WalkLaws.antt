@@ -4,7 +4,7 @@ use Rattle.std.specs.Prelude.{Option, Some, None}
 use Rattle.std.proofs.lemmas.Bool.{cases_Bool}
 use Rattle.std.proofs.lemmas.List.{get_or_at, length_push, set-get_or, set-set}
 use Rattle.cost_base.specs.Lists.{NoneTwice}
-use Rattle.cost_base.proofs.ListLemmas.{none_twice_seam}
+use Rattle.cost_base.proofs.ListLemmas.{none_twice_seam, has_lacks}
 use Rattle.cost_base.specs.Marks.{is_marked, is_one_of}
 use Rattle.cost_base.proofs.MarkLaws.{one_of_has}
 use Rattle.spf_ties.specs.Distances.{IsRoomFor}
@@ -17,7 +17,6 @@ use Rattle.change_steps.specs.Kinds.{first_steps}
 use Rattle.change_steps.specs.States.{MayFollow, marks_of}
 use Rattle.change_steps.specs.Search.{AllLack, HasMore, HeldRollout, IsExplored, IsNewStep, IsSearch, IsStateOf, Position, order_behind_first, longer_of, way_state}
 use Rattle.change_steps.specs.Walks.{IsBegun, IsWalkEnded, IsAfterRound, IsUnderWay, IsSearchWalk, left_of, position_of}
-use Rattle.change_steps.proofs.Keeping.{has_lacks}
 use Rattle.change_steps.proofs.StateLaws.{set_more}
 use Rattle.change_steps.proofs.MarkLaws.{marks_at}
 use Rattle.change_steps.proofs.SearchLaws.{another_reached, begin_lacks, lack_push, search_backs, search_begins, search_enters, search_exhausts, search_fails, search_moves, top_safe, way_push}

@@ -7,7 +7,7 @@ use Rattle.std.proofs.lemmas.Bool.{false≢true, and_parts}
 use Rattle.std.proofs.lemmas.List.Folds.{list_all-append}
 use Rattle.std.proofs.lemmas.Simd.{map-map}
 use Rattle.cost_base.specs.Lists.{first_of, last_of}
-use Rattle.cost_base.proofs.ListLemmas.{map-agree, option_or-none}
+use Rattle.cost_base.proofs.ListLemmas.{map-agree, option_or-none, option_or-parts}
 use Rattle.text_lines.specs.Lines.{lines}
 use Rattle.text_lines.specs.Numbers.{Prefix}
 use Rattle.interface_model.specs.declared.Interface.{Interface}
@@ -111,10 +111,6 @@ ids_law : (all : List Said) → id_after None (filter (λ s. sets s.statement) a
 ids_law all = ids_along all None ∙ option_or-none (setting router_id_said (about_router all))
 
 -- no fault of its own on any line: no line is too long
-either_none : (o p : Option Fault) → option_or o p ≡ None → (o ≡ None) × (p ≡ None)
-either_none None p e = (refl, e)
-either_none (Some x) p e = absurd (cc)
-
 earliest_parts : (o p : Option Fault) → earliest o p ≡ None → (o ≡ None) × (p ≡ None)
 earliest_parts None p e = (refl, e)
 earliest_parts (Some x) None e = absurd (cc)
@@ -137,7 +133,7 @@ all_short = by_lines (λ file. (heard file).fault ≡ None → list_all is_short
         parts : ((heard file).fault ≡ None)
             × (at_line (length file + 1)
             (option_or (long_line line) (refused (said_after (read_lines file) (read_line line)).statement)) ≡ None)
-        parts = either_none (heard file).fault
+        parts = option_or-parts (heard file).fault
             (at_line (length file + 1)
             (option_or (long_line line) (refused (said_after (read_lines file) (read_line line)).statement)))
             (sym (fault-push file line) ∙ none)

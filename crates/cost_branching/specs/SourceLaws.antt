@@ -1,7 +1,7 @@
 -- Laws of the source of rivals: its true forms hold where each path leads, they stand in one list, and a path that
 -- leads at multiples of costs leads at the costs.
 use Rattle.std.proofs.Common.{◌≡◌, ℕ, zero, suc, ◌+◌, ◌*◌, ◌^◌, ◌<◌, ◌≤◌, refl, sym, ◌∙◌, subst, ap, inl, inr, get_or, List, [], ◌∷◌, map, length, arith}
-use Rattle.std.specs.Prelude.{ℤ, pos, ◌-ℤ◌, ◌≤ℤ◌, nat_abs, All, Contains, slice_get, slice_index}
+use Rattle.std.specs.Prelude.{ℤ, pos, ◌-ℤ◌, ◌≤ℤ◌, nat_abs, All, Contains, slice_get}
 use Rattle.std.proofs.lemmas.Int.{ints}
 use Rattle.std.proofs.lemmas.List.{length-map, get_or-map}
 use Rattle.std.proofs.lemmas.List.Elements.{Contains-append_left, Contains-append_right}
@@ -28,6 +28,7 @@ use Rattle.design_problem.proofs.FormSizes.{value_size}
 use Rattle.design_problem.proofs.PathBounds.{path-known, simple-short}
 use Rattle.design_problem.proofs.RowForms.{RowPaths, route_of_rival, row_paths}
 use Rattle.form_search.specs.Sources.{IsTrueForm, scaled}
+use Rattle.form_search.proofs.CostPoints.{scaled_at}
 use Rattle.cost_branching.specs.PossibleForms.{begun_by, possible_forms_of_problem, edge_lists, forms_of_requests, lists_within}
 use Rattle.cost_branching.specs.Rivals.{IsTrueRowForm}
 
@@ -164,12 +165,6 @@ rival_forms_listed p form is =
     subst (λ (f : Form). Contains (possible_forms_of_problem p) f) is.of_row.same (form-listed p p.requests row.request row.rival is.of_row.is_row has)
 
 -- A path that leads at multiples of costs leads at the costs.
-
--- the value of a variable at multiples of costs
-scaled_at : (w : List ℕ) (scale v : ℕ) → slice_index (map (λ x. x * scale) w) v ≡ slice_index w v * scale
-scaled_at [] scale v = omega arith
-scaled_at (x ∷ w) scale zero = refl
-scaled_at (x ∷ w) scale (suc v) = scaled_at w scale v
 
 -- a price at multiples of costs is that multiple of the price at the costs
 scaled_price : (w : List ℕ) (scale : ℕ) (price : Price) → price_at (scaled w scale) price ≡ price_at (at_costs w) price * scale

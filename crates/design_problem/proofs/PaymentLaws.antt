@@ -190,7 +190,7 @@ else_end [] w v s other = other_term w v s other
 else_end (t ∷ ts) w v s other = ap (λ z. cond (t.var == v) t.coefficient z) (else_end ts w v s other)
 
 -- terms of earlier variables, and one at the end
-some_or_none : (s : ℤ) → (s ≡ pos 0) ⊎ (s ≢ pos 0)
+pub some_or_none : (s : ℤ) → (s ≡ pos 0) ⊎ (s ≢ pos 0)
 some_or_none (pos zero) = inl refl
 some_or_none (pos (suc n)) = inr (λ e. let f : ⊥ = omega (arith, ints, e) in f)
 some_or_none (negsuc n) = inr (λ e. let f : ⊥ = omega (arith, ints, e) in f)

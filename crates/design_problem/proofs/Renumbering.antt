@@ -19,10 +19,12 @@ use Rattle.design_problem.specs.Boxes.{Refutes, greatest}
 use Rattle.design_problem.specs.Basis.{entry, AreEntries, HasEntries, IsFormOf, IsTable, forms_of, low_member, member_form}
 use Rattle.cost_base.specs.declared.StepName.TheVariants.{Add, Mul, Lcm, Scale}
 use Rattle.design_problem.specs.Steps.{IsPivot, IsTableStep, row_product, row_sum, pivot_quotient, pivot_inverse, pivot_product, pivot_inverse_product, pivot_difference, corner_multiple, corner_scale, multiple, multiplier_product, multiplier_sum, multiplier_scale, IsRefutingForm, IsStepTooWide, column_parts, denominators, lcm_of, made_whole, refuting_multipliers, own_multiplier, start_of_sum, terms, two_to_27}
-use Rattle.design_problem.specs.Trees.{SoundAt, TightensAt, removed}
+use Rattle.design_problem.specs.Trees.{SoundAt, TightensAt, removed, Sound, subboxes}
 use Rattle.design_problem.specs.Earnest.{OpenPlace, Earnest, EarnestAt, at_bound, subplaces}
 use Rattle.design_problem.specs.OpenPlaces.{LeavesPlacesOpen}
 use Rattle.design_problem.specs.Renumbering.{IsRenumbering, renumbered, renumbered_member, renumbered_multiplier, renumbered_wide}
+use Rattle.design_problem.specs.SearchTrees.{IsSearchTree}
+use Rattle.design_problem.proofs.OpenPlaces.{earnest_opens, opens_ends}
 
 renumbered_form : (number : ℕ → ℕ) (old new : List Form) (n : ℕ) (box : CostBox) (member : Member) →
     IsRenumbering number old new → IsFormOf box old member →
@@ -340,3 +342,25 @@ pub too_wide_kept : (top : ℕ) (box : CostBox) (forms more : List Form) (wide :
 too_wide_kept top box forms more wide too_wide =
     subst (IsStepTooWide top box (forms ++ more)) (same_wide wide)
     (renumbered_too_wide (λ row. row) forms (forms ++ more) top box wide (forms_kept forms more) too_wide)
+
+-- a search's tree too
+pub tree_more : (accepts : Point → Type 0) (top : ℕ) (forms more : List Form) (box : CostBox) (tree : List Entry) →
+    IsSearchTree accepts top forms box tree → IsSearchTree accepts top (forms ++ more) box tree
+tree_more accepts top forms more box tree is =
+    let start : List OpenPlace = record { box = box; since = [] } ∷ [] in
+    record {
+      earnest = opens_ends accepts top (forms ++ more) start tree
+          (opens_kept accepts top forms more start tree [] (earnest_opens accepts top forms start tree is.earnest));
+      last = is.last;
+      short = is.short;
+    }
+
+-- and a sound tree
+pub sound_more : (forms more : List Form) (boxes : List CostBox) (entries : List Entry) → Sound forms boxes entries → Sound (forms ++ more) boxes entries
+sound_more forms more [] [] sound = tt
+sound_more forms more (box ∷ boxes) [] sound = absurd sound
+sound_more forms more [] (e ∷ entries) sound = absurd sound
+sound_more forms more (box ∷ boxes) (e ∷ entries) sound = (
+  subst (SoundAt (forms ++ more) box) (same_entry e) (renumbered_sound (λ row. row) forms (forms ++ more) box e (forms_kept forms more) sound.0),
+  sound_more forms more (subboxes box e ++ boxes) entries sound.1,
+)

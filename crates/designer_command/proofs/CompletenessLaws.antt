@@ -3,6 +3,7 @@ use Rattle.std.proofs.Common.{◌≡◌, ◌∙◌, ℕ, ◌+◌, ◌<◌, ◌�
 use Rattle.std.specs.Prelude.{All, Option, None, Some, Result, Ok, Err, bytes_eq}
 use Rattle.std.proofs.lemmas.List.Sums.{sum_by-cons}
 use Rattle.std.proofs.lemmas.Slice.Eq.{bytes_eq-Decides}
+use Rattle.std.proofs.lemmas.Option.{same_Some}
 use Rattle.cost_base.specs.declared.ShelfStop.{ShelfStop}
 use Rattle.cost_base.specs.declared.ShelfStop.TheVariants as stop
 use Rattle.cost_base.specs.declared.Status.{Status}
@@ -97,9 +98,6 @@ designs_accepted limits d aim printed (inr is) may names answer came end bytes e
     let shown : IsShownImpossible limits d.problem printed = subst (λ (s : Status). MayDesign limits d s printed) is may in
     accepted names answer came (record { problem = d.problem; bytes = printed }) shown.answer end bytes ends shown.value shown.spelled shown.valid h
 
-some_lines : (x y : List CostLine) → Some x ≡ Some y → x ≡ y
-some_lines x y e = cc
-
 none_some : (x : List CostLine) → Some x ≡ None → ⊥
 none_some x e = cc
 
@@ -113,7 +111,7 @@ written config answer came r costs end bytes ends said headed h =
     fit rejection (inr (inr missing)) =
         missing.missing
         (subst (λ (cs : List CostLine). first_missing (new_costs r.config cs) r.config.bytes ≡ None)
-        (some_lines costs missing.costs (said_once r.bytes (Some costs) (Some missing.costs) said missing.said)) headed)
+        (same_Some costs missing.costs (said_once r.bytes (Some costs) (Some missing.costs) said missing.said)) headed)
 
 abbrev mark : Bool → ℕ
 mark b = cond b 1 0

@@ -1,7 +1,6 @@
 -- A budget of about twice as many entries as there are points can't be used up.
-use Rattle.std.proofs.Common.{◌≡◌, ℕ, suc, ◌+◌, ◌-◌, ◌*◌, ◌<◌, ◌≤◌, sym, ◌∙◌, ap, subst, arith, List, [], ◌∷◌, length, map}
+use Rattle.std.proofs.Common.{◌≡◌, ℕ, suc, ◌+◌, ◌-◌, ◌<◌, ◌≤◌, sym, ◌∙◌, ap, subst, arith, List, [], ◌∷◌, length, map}
 use Rattle.std.specs.Prelude.{slice_index, min, All, Contains, Option, None, Some}
-use Rattle.std.proofs.Math.Nat.{mul-le-mul_left, mul-le-mul_right}
 use Rattle.std.proofs.lemmas.List.{length-map, get_or-map}
 use Rattle.design_problem.specs.declared.form.Form.{Form}
 use Rattle.design_problem.specs.declared.tree.Entry.{Entry}
@@ -28,11 +27,9 @@ use Rattle.input_files.specs.Readings.{EndsAs, Says, line_refused}
 use Rattle.input_files.specs.Outcomes.{Input, outcome}
 use Rattle.input_files.proofs.Readings.{said_unless, was_read}
 use Rattle.input_files.proofs.ReadyInputs.{came_whole, ready_is}
+use Rattle.least_change.proofs.InBoxes.{product_le}
 use Rattle.path_commands.specs.SetFiles.{Sharing, sets_said, sets_read, spread_read}
 use Rattle.designer_command.specs.Completeness.{IsLarge, LargeBudgetIsSufficient, LargeBudgetsSuffice}
-
-product_le : (a b c d : ℕ) → a ≤ b → c ≤ d → a * c ≤ b * d
-product_le a b c d first second = omega (arith, mul-le-mul_right c first, mul-le-mul_left b second)
 
 -- higher ends, more points
 points_of-le : (ls hs ks : List ℕ) → length hs ≡ length ks → ((k : ℕ) → k < length hs → slice_index hs k ≤ slice_index ks k) → points_of ls hs ≤ points_of ls ks

@@ -3,7 +3,7 @@ use Rattle.std.proofs.Common.{◌≡◌, ◌≢◌, ℕ, zero, suc, ◌+◌, ◌
 use Rattle.std.proofs.lemmas.Bool.{eq-eqb, eqb-false, eqb-true}
 use Rattle.std.proofs.lemmas.List.{append-nil, get_or_default, length-append}
 use Rattle.std.specs.Prelude.{All, Contains, slice_index}
-use Rattle.std.proofs.lemmas.List.Elements.{Contains-append_right}
+use Rattle.std.proofs.lemmas.List.Elements.{Contains-append_right, All-push}
 use Rattle.area_graph.specs.declared.Point.{Point}
 use Rattle.design_problem.specs.Forms.{Form}
 use Rattle.design_problem.specs.declared.form.CostBox.{CostBox}
@@ -80,12 +80,6 @@ first_costs n box part kept within = record {
     upper : (a b : ℕ) → a ≤ 65535 → b ≤ a → b ≤ 65535
     upper a b few less = omega arith
 
-all_more : (P : Entry → Type 0) (entries : List Entry) (entry : Entry) → All P entries → P entry → All P (entries ++ entry ∷ [])
-all_more P [] entry all one zero d k_in = one
-all_more P [] entry all one (suc k) d k_in = absurd (omega arith)
-all_more P (e ∷ entries) entry all one zero d k_in = all 0 d (omega arith)
-all_more P (e ∷ entries) entry all one (suc k) d k_in = all_more P entries entry (λ i f i_in. all (suc i) f (omega arith)) one k d (omega arith)
-
 -- one more entry
 pub growing_more : (accepted : Point → Type 0) (top nodes : ℕ) (forms : List Form) (box : CostBox) (tree : Growing)
     (entry : Entry) → IsBox (length box.low) box → IsGrowing accepted top nodes forms box tree →
@@ -96,7 +90,7 @@ growing_more accepted top nodes forms box tree entry kept growing some left next
   opens = at_first tree.places some growing.opens next;
   closed = closed_more tree.entries entry growing.closed next.closed;
   short =
-      all_more (IsShort (length box.low)) tree.entries entry growing.short
+      All-push (IsShort (length box.low)) tree.entries entry growing.short
       (subst (λ (n : ℕ). IsShort n entry)
       (first_in accepted top (length box.low) forms box tree.entries tree.places kept some
       growing.opens).is_box.low_count next.short);

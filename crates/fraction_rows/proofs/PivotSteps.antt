@@ -1,7 +1,7 @@
 -- The steps of a pivot are steps of the basis.
 use Rattle.std.proofs.Common.{◌≡◌, ◌≢◌, ℕ, zero, suc, ◌+◌, ◌<◌, cond, sym, ◌∙◌, ap, subst, List, [], ◌∷◌, length, arith, inl, inr, zero-add}
 use Rattle.std.specs.Prelude.{pos, ◌==◌, Any}
-use Rattle.std.proofs.lemmas.Bool.{cases_eq}
+use Rattle.std.proofs.lemmas.Bool.{cases_eq, eq-eqb, ne_eqb}
 use Rattle.cost_base.specs.declared.StepName.{StepName}
 use Rattle.cost_base.specs.declared.StepName.TheVariants.{Sub, Mul, Div}
 use Rattle.whole_numbers.specs.Fractions.{Fraction, divided, numbers_of_step, times, whole}
@@ -17,7 +17,6 @@ use Rattle.fraction_rows.specs.TableLines.IsDivideStep.{quotient}
 use Rattle.fraction_rows.specs.Turns.{IsQuotientStepOf, IsTurnStep}
 use Rattle.fraction_rows.specs.Turns.IsQuotientStepOf.{dividing, inverting}
 use Rattle.fraction_rows.specs.Turns.IsTurnStep.{crossing, entering}
-use Rattle.fraction_rows.proofs.Columns.{same_test, other_test}
 use Rattle.fraction_rows.proofs.ZeroFractions.{times_nothing}
 use Rattle.fraction_rows.proofs.RowLaws.{number_at}
 use Rattle.fraction_rows.proofs.NoStep.{no_difference, no_product}
@@ -52,14 +51,14 @@ quotient_at left_out (suc place) start q (e ∷ es) place_in =
 
 pub quotient_own : (j : ℕ) (q : Fraction) (es : List Fraction) → j < length es → entry (divided_without j q es 0) j ≡ nothing
 quotient_own j q es j_in =
-    quotient_at j j 0 q es j_in ∙ ap (λ b. cond b nothing (divided (entry es j) q)) (same_test (0 + j) j (zero-add j))
+    quotient_at j j 0 q es j_in ∙ ap (λ b. cond b nothing (divided (entry es j) q)) (eq-eqb (0 + j) j (zero-add j))
 
 quotient_other : (j place : ℕ) (q : Fraction) (es : List Fraction) → place ≢ j → place < length es →
     entry (divided_without j q es 0) place ≡ divided (entry es place) q
 quotient_other j place q es other place_in =
     quotient_at j place 0 q es place_in
     ∙ ap (λ b. cond b nothing (divided (entry es place) q))
-    (other_test (0 + place) j (λ same. other (sym (zero-add place) ∙ same)))
+    (ne_eqb (0 + place) j (λ same. other (sym (zero-add place) ∙ same)))
 
 -- A crossing of a line with the quotients: a step with a quotient that isn't 0 is one of the basis, and one with 0
 -- makes no number that passes the top.

@@ -6,6 +6,7 @@ use Rattle.std.proofs.lemmas.Int.{fits_signed_from_abs, ints, to_z-of_z, to_z_po
 use Rattle.std.proofs.lemmas.List.{get_or_default, get_or-map, length-map, map-append, take_more}
 use Rattle.std.proofs.lemmas.List.Sums.{fold_more, sum_by-cons}
 use Rattle.std.proofs.lemmas.Option.{slice_get-get_or}
+use Rattle.std.proofs.lemmas.List.Elements.{All-push}
 use Rattle.cost_base.specs.declared.StepName.TheVariants.{Add, Lcm, Mul, Scale}
 use Rattle.whole_numbers.specs.Fractions.{Fraction, lcm, plus, sum_of, times, whole}
 use Rattle.whole_numbers.proofs.FractionLaws.{reduced_lowest}
@@ -180,13 +181,7 @@ wide_multiplier top qs wide step passes = (step, passes)
 pub all_more : (top : ℕ) (olds news : List (ℕ × ℕ)) (part : ℕ × ℕ) → news ≡ olds ++ part ∷ [] →
     All (λ p. p.1 ≤ top) olds → part.1 ≤ top → All (λ p. p.1 ≤ top) news
 all_more top olds news part news_are within last =
-    subst (λ (ps : List (ℕ × ℕ)). All (λ p. p.1 ≤ top) ps) (sym news_are) (put olds within)
-  where
-    put : (ps : List (ℕ × ℕ)) → All (λ p. p.1 ≤ top) ps → All (λ p. p.1 ≤ top) (ps ++ part ∷ [])
-    put [] all zero d k_in = last
-    put [] all (suc k) d k_in = absurd (omega arith)
-    put (p ∷ ps) all zero d k_in = all 0 d (omega arith)
-    put (p ∷ ps) all (suc k) d k_in = put ps (λ j e j_in. all (suc j) e (omega arith)) k d (omega arith)
+    subst (λ (ps : List (ℕ × ℕ)). All (λ p. p.1 ≤ top) ps) (sym news_are) (All-push (λ (p : ℕ × ℕ). p.1 ≤ top) olds part within last)
 
 pub scale_wide : (parts : List (ℕ × ℕ)) (so_far : Fraction) (wide : Wide) → so_far ≡ sum_of (wholes parts) →
     wide ≡ record { step = Scale; left = whole so_far.numerator; right = whole (pos (2 ^ 27)) } →

@@ -1,10 +1,9 @@
 -- Networks at present costs and beside them: their request file has no fault, and each present cost is above 0.
 use Rattle.std.proofs.Common.{◌≡◌, ◌<◌, refl, sym, ◌∙◌, ap, subst, [], ◌++◌, map, All, Option, None}
-use Rattle.cost_base.proofs.ListLemmas.{append-none}
+use Rattle.cost_base.proofs.ListLemmas.{append-none, none_first}
 use Rattle.lsdb_build.specs.Graphs.{Database, IsAreaDatabase}
 use Rattle.design_problem.specs.Problems.{DesignProblem}
 use Rattle.request_reader.specs.Asked.{IsAsked}
-use Rattle.request_reader.proofs.AskedRules.{none_first}
 use Rattle.wanted_paths.specs.declared.fault.ResolutionFault.{ResolutionFault}
 use Rattle.wanted_paths.specs.LineFaults.{line_faults}
 use Rattle.path_requests.specs.Meaning.{present_cost, problem_of}

@@ -4,6 +4,7 @@ use Rattle.std.specs.Prelude.{MatchResult}
 use Rattle.std.proofs.lemmas.List.{length-drop}
 use Rattle.cost_base.specs.declared.refusal.Refusal.{Refusal}
 use Rattle.cost_base.specs.declared.refusal.Refusal.TheVariants.{Refused, OutOfMemory}
+use Rattle.cost_base.proofs.ListLemmas.{option_or-parts}
 use Rattle.lsa_bytes.specs.declared.fault.LsaFault.{LsaFault}
 use Rattle.lsa_bytes.specs.declared.Lsa.{Lsa}
 use Rattle.lsa_bytes.specs.declared.instances.Instance.{Instance}
@@ -11,7 +12,7 @@ use Rattle.lsa_bytes.specs.Grammar.{length_of, said_at}
 use Rattle.lsa_bytes.specs.Faults.{length_fault, body_fault, form_fault}
 use Rattle.lsa_bytes.specs.Files.{ComesTo, Refuses, decided, instances_in}
 use Rattle.lsa_bytes.specs.Reading.{AreReadFrom}
-use Rattle.lsa_bytes.proofs.Lengths.{option_or-none, begins_whole}
+use Rattle.lsa_bytes.proofs.Lengths.{begins_whole}
 use Rattle.lsa_bytes.proofs.ReadSoFar.{IsUnderway, IsFirst, begin, next, all_read, broken_off}
 use Rattle.lsa_bytes.proofs.Pieces.{one_outcome}
 use Rattle.input_files.proofs.Parsed.{TellsPlace}
@@ -45,7 +46,7 @@ come_to (suc most) bytes (byte ∷ more) before offset so_far few at =
     (lsas_behind most (before ++ said_at offset (take (length_of rest) rest)) (offset + length_of rest)
     (drop (length_of rest) rest)) (form_fault rest) so_far (omega arith) at refl
     (λ none.
-    (let parts = option_or-none (length_fault rest) (body_fault (take (length_of rest) rest)) none in
+    (let parts = option_or-parts (length_fault rest) (body_fault (take (length_of rest) rest)) none in
     let begins = begins_whole rest parts.0 in
     let first : IsFirst rest (take (length_of rest) rest) (drop (length_of rest) rest) = record { lsa_is = refl; behind_is = refl; begins = begins } in
     come_to most bytes (drop (length_of rest) rest) (before ++ said_at offset (take (length_of rest) rest)) (offset + length_of rest)

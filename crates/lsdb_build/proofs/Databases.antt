@@ -6,10 +6,11 @@ use Rattle.std.proofs.lemmas.Bool.{false≢true, and_parts, and_from, and_right,
 use Rattle.std.proofs.lemmas.Option.{none-some, same_Some, slice_get_within, slice_get-get_or}
 use Rattle.std.proofs.lemmas.List.{length-map}
 use Rattle.std.proofs.lemmas.List.Elements.{All-weaker, All-filter, All-map, filter_passes}
-use Rattle.std.proofs.lemmas.List.Kept.{AllPairs-cons, AllPairs-filter}
+use Rattle.std.proofs.lemmas.List.Kept.{AllPairs-filter}
 use Rattle.std.proofs.lemmas.List.Sums.{length-filter, count_by-le-length}
 use Rattle.cost_base.specs.Lists.{numbers_from}
 use Rattle.cost_base.specs.Words.{IsWord}
+use Rattle.cost_base.proofs.ListLemmas.{pairs_map}
 use Rattle.interface_model.specs.declared.Kind.{Kind}
 use Rattle.interface_model.specs.declared.Kind.TheVariants.{PointToPoint, Broadcast}
 use Rattle.interface_model.specs.Records.{Router, IsRouter}
@@ -18,7 +19,7 @@ use Rattle.lsdb_build.specs.Neighbours.{Port, ports, shares_subnet, is_linked, i
 use Rattle.lsdb_build.specs.Graphs.{IsAreaDatabase, IsDatabaseLink, IsFar, HasLinkBack, IsLinkBackOf, link_leads_to, leads_to, links_into_subnet}
 use Rattle.lsdb_build.specs.Topology.{is_second_of_router, is_second_of_address, is_mismatch, is_crowding, is_overlap, lacks_designated, first_where, at_port, at_config, past, second_of_name, topology_fault, link_of, places_from, database_of}
 use Rattle.lsdb_build.specs.Links.{router_at, far_among, link_back_among}
-use Rattle.lsdb_build.proofs.Pairs.{all_at, all_from_at, pair_at, pairs_nil, pairs_head, pairs_tail, pairs_weaker, map_at, at_map, count_agree, count_filter, other_place}
+use Rattle.lsdb_build.proofs.Pairs.{all_at, all_from_at, pair_at, pairs_weaker, map_at, at_map, count_agree, count_filter, other_place}
 use Rattle.lsdb_build.proofs.Subnets.{shares_itself, shares_back, shares_on, shares_alike, none_passes, differs_in_kind, kinds_at, place_only, firsts_all, firsts_length, firsts_are_first, FirstOf, first_found}
 use Rattle.lsdb_build.specs.declared.fault.TopologyFault.TheVariants.{TooMany, NameTwice, SameRouterTwice, AddressTwice, TypeMismatch, CrowdedLink, NoDesignated, OverlapPrefix}
 use Rattle.lsdb_build.proofs.PortFacts.{IsPortFrom, InOrder, ports_from_all, ports_from_pairs, no_first, no_port, no_config, within, none_past, names_differ}
@@ -219,13 +220,6 @@ places_are h test n (x ∷ xs) same =
     let here : h n ≡ test x = ap h (omega arith) ∙ same 0 x refl in
     let rest = places_are h test (n + 1) xs (λ k y at. ap h (omega arith) ∙ same (suc k) y at) in
     ap (λ b. cond b (n ∷ places_from (n + 1) test xs) (places_from (n + 1) test xs)) (sym here) ∙ ap (λ ns. cond (h n) (n ∷ ns) ns) rest
-
--- pairs of what a function gives
-pairs_map : {X Y : Type 0} (R : Y → Y → Type 0) (f : X → Y) (xs : List X) → AllPairs (λ a b. R (f a) (f b)) xs → AllPairs R (map f xs)
-pairs_map R f [] pairs = pairs_nil R
-pairs_map R f (x ∷ xs) pairs =
-    AllPairs-cons R (f x) (map f xs) (All-map (R (f x)) f xs (pairs_head (λ a b. R (f a) (f b)) x xs pairs))
-    (pairs_map R f xs (pairs_tail (λ a b. R (f a) (f b)) x xs pairs))
 
 -- where the link of a point-to-point subnet leads
 far_is : (all : List Port) (l : ℕ) (p : Port) → p.interface.kind ≡ PointToPoint → (m : ℕ) (q : Port) →

@@ -4,11 +4,11 @@ use Rattle.std.specs.Prelude.{length, slice_get, slice_index_or, Result, Ok, Err
 use Rattle.std.proofs.lemmas.List.{at_drop_more}
 use Rattle.std.proofs.lemmas.Option.{get_or_from_slice_get}
 use Rattle.cost_base.specs.Lists.{first_of}
+use Rattle.cost_base.proofs.ListLemmas.{none_first}
 use Rattle.lsdb_build.specs.declared.Linked.{Linked}
 use Rattle.lsdb_build.specs.Graphs.{Database}
 use Rattle.lsdb_build.proofs.Pairs.{at_map}
 use Rattle.request_reader.specs.Asked.{Asked}
-use Rattle.request_reader.proofs.AskedRules.{none_first}
 use Rattle.wanted_paths.specs.declared.fault.ResolutionFault.{ResolutionFault}
 use Rattle.wanted_paths.specs.declared.fault.ResolutionFault.TheVariants.{NoCost}
 use Rattle.path_requests.specs.Meaning.{Range, Within, AsItIs, range_of}

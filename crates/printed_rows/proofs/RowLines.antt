@@ -4,12 +4,12 @@ use Rattle.std.specs.Prelude.{codes, All, count_by, slice_get, slice_index_or, O
 use Rattle.std.proofs.lemmas.List.Elements.{All-head, All-tail}
 use Rattle.cost_base.specs.Decimal.{decimal}
 use Rattle.cost_base.specs.Lists.{Has, NoneTwice}
+use Rattle.cost_base.proofs.ListLemmas.{has_lacks}
 use Rattle.area_graph.specs.declared.Vertex.{Vertex}
 use Rattle.area_graph.specs.declared.Vertex.TheVariants.{Router, Subnet}
 use Rattle.area_graph.specs.Area.{Area, edge_at, no_edge, vertex_at, is_vertex_of_router, FitsGraph, FitsEdge, FitsTarget}
 use Rattle.area_graph.specs.Paths.{Ends, IsPathOf, Joins, visited}
 use Rattle.area_graph.proofs.Bounds.{count_less}
-use Rattle.area_graph.proofs.Deviations.{lacks_not}
 use Rattle.design_problem.specs.declared.form.Row.{Row}
 use Rattle.design_problem.specs.declared.problem.Request.{Request}
 use Rattle.design_problem.specs.Problems.{DesignProblem, IsProblem, request_ends, no_request}
@@ -71,8 +71,8 @@ edges_le g vs s (e ∷ es) t graph same joins once marks =
     (edges_le g vs (edge_at g e).to es t graph same joins.2 once.1 (λ v has. marks v (inr has)))
     (edges_le g (set vs s (Subnet 0)) (edge_at g e).to es t graph (length-set vs s (Subnet 0) ∙ same) joins.2 once.1
     (λ v has. get_or-set_other vs s v (Subnet 0) (Router 0)
-    (λ back. lacks_not (visited g (edge_at g e).to es) s once.0
-    (subst (λ (x : ℕ). Has (visited g (edge_at g e).to es) x) back has)) ∙ marks v (inr has))) in
+    (λ back. has_lacks (visited g (edge_at g e).to es) s
+    (subst (λ (x : ℕ). Has (visited g (edge_at g e).to es) x) back has) once.0) ∙ marks v (inr has))) in
     omega arith
 
 path_edges-le : (g : Area) (ends : Ends) (es : List ℕ) → FitsGraph g → IsPathOf g ends es → length es ≤ 2001

@@ -7,6 +7,7 @@ use Rattle.std.proofs.lemmas.List.{map-append}
 use Rattle.std.proofs.lemmas.List.Elements.{All-nil, All-append}
 use Rattle.std.proofs.lemmas.List.Folds.{list_any-append}
 use Rattle.std.proofs.lemmas.List.Kept.{AllPairs-cons}
+use Rattle.cost_base.proofs.ListLemmas.{pairs_head, pairs_tail}
 use Rattle.design_problem.specs.declared.answer.CapTree.{CapTree}
 use Rattle.design_problem.specs.declared.tree.Member.{Member}
 use Rattle.design_problem.specs.declared.tree.Member.TheVariants.{Low as ByLow, High as ByHigh, Row as ByRow}
@@ -23,22 +24,16 @@ use Rattle.printed_rows.proofs.TreeCopies.{IsCopy, all_printed, copy_names, prin
 
 -- None comes twice.
 
-pub pairs_left : {R : Type 0} (P : R → R → Type 0) (row : R) (rows : List R) → AllPairs P (row ∷ rows) → AllPairs P rows
-pairs_left P row rows pairs i j d before j_in = pairs (suc i) (suc j) d (omega arith) (omega arith)
-
-pub pairs_first : {R : Type 0} (P : R → R → Type 0) (row : R) (rows : List R) → AllPairs P (row ∷ rows) → All (P row) rows
-pairs_first P row rows pairs k d k_in = pairs 0 (suc k) d (omega arith) (omega arith)
-
 -- what holds of each two rows holds of each two that are kept
 kept_pairs : {R : Type 0} (P : R → R → Type 0) (named : ℕ → Bool) (first : ℕ) (rows : List R) → AllPairs P rows → AllPairs P (kept_from named first rows)
 kept_pairs P named first [] pairs = pairs
 kept_pairs {R} P named first (row ∷ rows) pairs =
-    by_test (named first) (kept_pairs P named (suc first) rows (pairs_left P row rows pairs))
+    by_test (named first) (kept_pairs P named (suc first) rows (pairs_tail P row rows pairs))
   where
     by_test : (is : Bool) → AllPairs P (kept_from named (suc first) rows) →
         AllPairs P (if is then row ∷ kept_from named (suc first) rows else kept_from named (suc first) rows)
     by_test true rest =
-        AllPairs-cons P row (kept_from named (suc first) rows) (kept_all (P row) named (suc first) rows (pairs_first P row rows pairs)) rest
+        AllPairs-cons P row (kept_from named (suc first) rows) (kept_all (P row) named (suc first) rows (pairs_head P row rows pairs)) rest
     by_test false rest = rest
 
 -- Each is named.

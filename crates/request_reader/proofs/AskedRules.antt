@@ -4,8 +4,7 @@ use Rattle.std.specs.Prelude.{nat_le, IfSome, count_by}
 use Rattle.std.proofs.lemmas.Bool.{leb-false}
 use Rattle.std.proofs.lemmas.List.Elements.{All-nil, All-cons, All-append}
 use Rattle.std.proofs.lemmas.List.Sums.{sum_by-append}
-use Rattle.cost_base.specs.Lists.{first_of}
-use Rattle.cost_base.proofs.ListLemmas.{append-none}
+use Rattle.cost_base.proofs.ListLemmas.{append-none, none_first}
 use Rattle.text_lines.specs.Lines.{lines}
 use Rattle.text_lines.specs.Statements.{text_faults}
 use Rattle.text_lines.proofs.StatementLaws.{lawful_statements}
@@ -20,11 +19,6 @@ use Rattle.request_reader.specs.Reading.{Told, told_by, fault_said, request_rule
 use Rattle.request_reader.specs.ReadingSteps.{told_with, KeepsRules}
 use Rattle.request_reader.proofs.ReadingLaws.{told_next}
 use Rattle.request_reader.proofs.ReadingRules.{statement_rules}
-
--- where a list has no first element it is empty
-pub none_first : {X : Type 0} (xs : List X) → first_of xs ≡ None → xs ≡ []
-none_first [] none = refl
-none_first (x ∷ xs) none = absurd (cc)
 
 -- what some statements say together keeps the rules
 record ToldKeeps (told : Told) : Type 0 where

@@ -1,13 +1,13 @@
 -- The statements of a request file, one after another.
 use Rattle.std.specs.Prelude.{is_some, Result, Ok, Err, OnOk, IfErr}
-use Rattle.std.specs.List.{cons_option, filter_map}
+use Rattle.std.specs.List.{cons_option}
 use Rattle.std.specs.Option.{option_or}
 use Rattle.std.proofs.Common.{◌≡◌, ℕ, ◌+◌, refl, sym, ◌∙◌, ap, subst, List, [], ◌∷◌, ◌++◌, length, true, false, Option, Some, None, append-nil}
 use Rattle.std.proofs.lemmas.Bool.{cond-true, cond-false}
 use Rattle.std.proofs.lemmas.List.Elements.{filter_map-append}
 use Rattle.std.proofs.lemmas.Result.{on_ok_weaker, MatchResult-weaker}
 use Rattle.cost_base.specs.Lists.{first_of}
-use Rattle.cost_base.proofs.ListLemmas.{first_of-push_option, option_or-none}
+use Rattle.cost_base.proofs.ListLemmas.{option_or-none, first_of-filter_map-push}
 use Rattle.cost_base.specs.declared.refusal.Refusal.{Refusal}
 use Rattle.cost_base.specs.declared.refusal.Refusal.TheVariants.{Refused as StopRefused, OutOfMemory}
 use Rattle.text_lines.specs.Lines.{lines}
@@ -31,14 +31,10 @@ told_more told n said = record {
   items = told.items ++ cons_option (line_in n said) [];
 }
 
-first_push : {X : Type 0} (pick : SaidLine → Option X) (before : List SaidLine) (s : SaidLine) →
-    first_of (filter_map pick (before ++ s ∷ [])) ≡ option_or (first_of (filter_map pick before)) (pick s)
-first_push {X} pick before s = ap first_of (filter_map-append pick before (s ∷ [])) ∙ first_of-push_option (pick s) (filter_map pick before)
-
 told_push : (before : List SaidLine) (s : SaidLine) → told_by (before ++ s ∷ []) ≡ told_more (told_by before) s.line (request_statement_of s.words)
 told_push before s =
-    let area = first_push (λ t. area_in (request_statement_of t.words)) before s in
-    let cost = first_push (λ t. default_cost_in (request_statement_of t.words)) before s in
+    let area = first_of-filter_map-push (λ (t : SaidLine). area_in (request_statement_of t.words)) before s in
+    let cost = first_of-filter_map-push (λ (t : SaidLine). default_cost_in (request_statement_of t.words)) before s in
     let items = filter_map-append (λ t. line_in t.line (request_statement_of t.words)) before (s ∷ []) in
     cc (area, cost, items)
 

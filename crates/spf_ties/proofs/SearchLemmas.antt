@@ -7,7 +7,7 @@ use Rattle.std.proofs.lemmas.List.Sorted.{All-permutation, Contains-permutation}
 use Rattle.std.proofs.lemmas.List.Sums.{sum_by-cons, count_by-le-length, length-filter}
 use native.Mathlib.Decide.{ℕ_discrete}
 use Rattle.cost_base.specs.Lists.{Lacks, numbers_from}
-use Rattle.cost_base.proofs.ListLemmas.{length-numbers_from, all_kept, kept_all, all_lacks}
+use Rattle.cost_base.proofs.ListLemmas.{length-numbers_from, all_kept, kept_all, all_lacks, contains_later}
 use Rattle.cost_base.specs.Marks.{is_marked}
 use Rattle.area_graph.specs.declared.Point.{Point}
 use Rattle.area_graph.specs.Area.{Area, edge_at, edges_in, no_edge, FitsGraph, FitsEdge}
@@ -31,9 +31,6 @@ contains_cases x y xs has = by_place has.0 has.1 has.2
     by_place : (k : ℕ) → k < length (x ∷ xs) → get_or (x ∷ xs) k y ≡ y → (x ≡ y) ⊎ Contains xs y
     by_place zero within is = inl is
     by_place (suc k) within is = inr (k, omega arith, is)
-
-contains_behind : (x y : Entry) (xs : List Entry) → Contains xs y → Contains (x ∷ xs) y
-contains_behind x y xs has = (suc has.0, (let within = has.1 in omega arith), has.2)
 
 contains_first : (x : Entry) (xs : List Entry) → Contains (x ∷ xs) x
 contains_first x xs = (zero, omega arith, refl)
@@ -291,7 +288,7 @@ lowered g p excluded t limit least e todo d settled waiting new graph front unde
           let value = there v other in
           subst (λ (y : ℕ). Contains new (entry_of y v)) (sym value)
           (Contains-permutation (entry_of x from ∷ waiting) new (entry_of (get_or d v 0) v) moved
-          (contains_behind (entry_of x from) (entry_of (get_or d v 0) v) waiting
+          (contains_later (entry_of x from) waiting (entry_of (get_or d v 0) v)
           (under.waits v (let same = size in omega arith) still (subst (λ (y : ℕ). y < limit) value near))))
     ]
 

@@ -1,5 +1,5 @@
 -- No row of sets comes twice.
-use Rattle.std.proofs.Common.{◌≡◌, ◌≢◌, ℕ, zero, suc, ◌+◌, ◌<◌, refl, sym, ◌∙◌, ap, subst, inl, inr, get_or, List, [], ◌∷◌, ◌++◌, map, length, arith, Bool, true, false, if◌then◌else◌}
+use Rattle.std.proofs.Common.{◌≡◌, ◌≢◌, ℕ, zero, suc, ◌+◌, ◌<◌, refl, sym, ◌∙◌, ap, subst, inl, inr, get_or, List, [], ◌∷◌, map, length, arith, Bool, true, false, if◌then◌else◌}
 use Rattle.std.specs.Prelude.{ℤ, pos, ◌≤ℤ◌, ◌<ℤ◌, All, AllPairs, filter}
 use Rattle.std.proofs.lemmas.Bool.{cases_lt, eqb-true}
 use Rattle.std.proofs.lemmas.Int.{ints}
@@ -7,12 +7,11 @@ use Rattle.std.proofs.lemmas.List.{get_or-map, length-map}
 use Rattle.std.proofs.lemmas.List.Elements.{All-append, All-cons, All-head, All-map, All-nil, All-tail, All-weaker}
 use Rattle.std.proofs.lemmas.List.Kept.{AllPairs-cons, AllPairs-filter, AllPairs-from_increasing}
 use Rattle.cost_base.specs.Lists.{numbers_from}
-use Rattle.cost_base.proofs.ListLemmas.{all_kept, get_or-numbers_from, length-numbers_from}
+use Rattle.cost_base.proofs.ListLemmas.{all_kept, get_or-numbers_from, length-numbers_from, pairs_head, pairs_tail, pairs_append, pairs_nil}
 use Rattle.area_graph.specs.declared.Point.{Point}
 use Rattle.design_problem.specs.Forms.{value_at}
 use Rattle.design_problem.specs.Problems.{DesignProblem}
 use Rattle.design_problem.specs.Rows.{form_between}
-use Rattle.printed_rows.proofs.SheetLaws.{pairs_first, pairs_left}
 use Rattle.set_reader.specs.Reading.{stands_in}
 use Rattle.set_reader.specs.SpreadSets.{AreSetsOf, IsSetOf}
 use Rattle.spread_sets.specs.declared.spread.SetRow.{SetRow}
@@ -21,19 +20,6 @@ use Rattle.spread_sets.specs.Spreads.{SetRowsDiffer, all_sets, edges_of, name_of
 use Rattle.spread_sets.specs.MemberSets.{AreDistinctSets}
 use Rattle.spread_sets.specs.Sources.{KnownSets, set_at, tie_rows, ties_in, ties_of}
 use Rattle.spread_sets.specs.Asking.{IsPassed}
-
--- Lists.
-
-pub none_pair : {X : Type 0} (R : X → X → Type 0) → AllPairs R []
-none_pair R i j d before j_in = absurd (omega (arith, j_in))
-
-pairs_append : {X : Type 0} (R : X → X → Type 0) (xs ys : List X) → AllPairs R xs → AllPairs R ys → All (λ x. All (R x) ys) xs → AllPairs R (xs ++ ys)
-pairs_append R [] ys first second across = second
-pairs_append {X} R (x ∷ xs) ys first second across =
-    let Across : X → Type 0 = λ y. All (R y) ys in
-    AllPairs-cons R x (xs ++ ys)
-    (All-append (R x) xs ys (pairs_first R x xs first) (All-head Across x xs across))
-    (pairs_append R xs ys (pairs_left R x xs first) second (All-tail Across x xs across))
 
 -- Rows of ties.
 
@@ -67,16 +53,16 @@ lacks_second name a i (k ∷ l ∷ more) lacks =
     (λ same first second. All-head Lacks k (l ∷ more) lacks second) (lacks_second name a i (l ∷ more) rest))
 
 ties_differ : (name : ℕ) (set : List ℕ) → AllPairs (λ i j. i ≢ j) set → AllPairs SetRowsDiffer (ties_of name set)
-ties_differ name [] apart = none_pair SetRowsDiffer
-ties_differ name (i ∷ []) apart = none_pair SetRowsDiffer
+ties_differ name [] apart = pairs_nil SetRowsDiffer
+ties_differ name (i ∷ []) apart = pairs_nil SetRowsDiffer
 ties_differ name (i ∷ j ∷ more) apart =
-    let lacks = pairs_first (λ a b. a ≢ b) i (j ∷ more) apart in
+    let lacks = pairs_head (λ a b. a ≢ b) i (j ∷ more) apart in
     let rest = ties_of name (j ∷ more) in
     AllPairs-cons SetRowsDiffer (Same name i j) (Same name j i ∷ rest)
     (All-cons (SetRowsDiffer (Same name i j)) (Same name j i) rest
     (λ same first second. All-head (λ k. i ≢ k) j more lacks first) (lacks_first name i j (j ∷ more) lacks))
     (AllPairs-cons SetRowsDiffer (Same name j i) rest (lacks_second name j i (j ∷ more) lacks)
-    (ties_differ name (j ∷ more) (pairs_left (λ a b. a ≢ b) i (j ∷ more) apart)))
+    (ties_differ name (j ∷ more) (pairs_tail (λ a b. a ≢ b) i (j ∷ more) apart)))
 
 -- they have the name of their set
 ties_named : (name : ℕ) (set : List ℕ) → All (λ row. name_of row ≡ name) (ties_of name set)
@@ -98,14 +84,14 @@ tie_rows_named P (set ∷ sets) all =
 -- of sets with names of their own none comes twice
 pub tie_rows_differ : (sets : List (List ℕ)) → AllPairs (λ a b. name_of_set a ≢ name_of_set b) sets →
     All (λ set. AllPairs (λ i j. i ≢ j) set) sets → AllPairs SetRowsDiffer (tie_rows sets)
-tie_rows_differ [] names members = none_pair SetRowsDiffer
+tie_rows_differ [] names members = pairs_nil SetRowsDiffer
 tie_rows_differ (set ∷ sets) names members =
     let NoTwice : List ℕ → Type 0 = λ s. AllPairs (λ i j. i ≢ j) s in
     let name = name_of_set set in
-    let others = tie_rows_named (λ n. name ≢ n) sets (pairs_first (λ a b. name_of_set a ≢ name_of_set b) set sets names) in
+    let others = tie_rows_named (λ n. name ≢ n) sets (pairs_head (λ a b. name_of_set a ≢ name_of_set b) set sets names) in
     pairs_append SetRowsDiffer (ties_in set) (tie_rows sets)
     (ties_differ name set (All-head NoTwice set sets members))
-    (tie_rows_differ sets (pairs_left (λ a b. name_of_set a ≢ name_of_set b) set sets names) (All-tail NoTwice set sets members))
+    (tie_rows_differ sets (pairs_tail (λ a b. name_of_set a ≢ name_of_set b) set sets names) (All-tail NoTwice set sets members))
     (All-weaker (λ row. name_of row ≡ name) (λ row. All (SetRowsDiffer row) (tie_rows sets))
     (λ row is. All-weaker (λ other. name ≢ name_of other) (SetRowsDiffer row)
     (λ other differ. names_differ row other (λ same. differ (sym is ∙ same))) (tie_rows sets) others)

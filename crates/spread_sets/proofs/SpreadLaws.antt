@@ -1,10 +1,11 @@
 -- Spread-fit costs meet the forms of all rows, and under them the cheapest paths are the members.
-use Rattle.std.proofs.Common.{◌≡◌, ◌≢◌, ℕ, suc, ◌+◌, ◌≤◌, refl, sym, subst, inl, inr, get_or, List, [], ◌∷◌, length, arith, Bool, true, false}
+use Rattle.std.proofs.Common.{◌≡◌, ◌≢◌, ℕ, ◌+◌, ◌≤◌, refl, sym, subst, inl, inr, get_or, List, [], ◌∷◌, length, arith, Bool, true, false}
 use Rattle.std.specs.Prelude.{ℤ, pos, ◌-ℤ◌, ◌≤ℤ◌, ◌⊎◌, All, Contains}
 use Rattle.std.proofs.lemmas.Int.{ints}
 use Rattle.std.proofs.lemmas.List.Elements.{All-contains, All-cons, All-map, All-nil}
 use Rattle.cost_base.specs.Lists.{same_bytes}
 use Rattle.cost_base.proofs.ByteLemmas.{same_bytes-true, same_bytes-same}
+use Rattle.cost_base.proofs.ListLemmas.{contains_later}
 use Rattle.area_graph.specs.Paths.{IsPathOf}
 use Rattle.area_graph.specs.Costs.{at_costs, cost}
 use Rattle.design_problem.specs.Problems.{DesignProblem, IsProblem}
@@ -62,9 +63,6 @@ spread_is_met p lines w kept are inside = (
 )
 
 -- The cheapest paths.
-
-contains_later : {X : Type 0} (x : X) (xs : List X) (y : X) → Contains xs y → Contains (x ∷ xs) y
-contains_later x xs y has = (suc has.0, omega (arith, has.1), has.2)
 
 -- a path is one of the members' or none of them
 listed_or : (paths : List (List ℕ)) (es : List ℕ) → Contains paths es ⊎ All (λ w. es ≢ w) paths

@@ -5,6 +5,7 @@ use Rattle.std.specs.Prelude.{ℤ, pos, ◌+ℤ◌, ◌-ℤ◌, ◌*ℤ◌, ◌�
 use Rattle.std.proofs.lemmas.Int.{ints}
 use Rattle.std.proofs.lemmas.List.Elements.{All-contains, Contains-append_left, Contains-append_right}
 use Rattle.whole_numbers.proofs.Ring.{var, num, ◌⊕◌, ◌⊖◌, ◌⊗◌, ring}
+use Rattle.whole_numbers.proofs.FractionLaws.{nat_cancel}
 use Rattle.area_graph.specs.declared.Point.{Point}
 use Rattle.area_graph.specs.Paths.{Ends, IsPathOf}
 use Rattle.area_graph.specs.Costs.{at_costs, cost}
@@ -221,29 +222,13 @@ set_forms_listed p sets form is =
 
 -- Sets that share at multiples of costs share at the costs.
 
--- numbers whose multiples by the scale are equal: the one is at most the other
-same_less : (a b scale : ℕ) → 0 < scale → a * scale ≡ b * scale → a ≤ b
-same_less a b scale some same = divided_less a b scale some (omega arith)
-  where
-    divided_less : (a b scale : ℕ) → 0 < scale → a * scale + scale ≤ b * scale + scale → a ≤ b
-    divided_less a b scale some more =
-        (let found = multiple_divided a (b + 1) scale some (let e : (b + 1) * scale ≡ b * scale + scale = omega arith in
-        omega arith) in omega arith)
-
--- numbers whose multiples by the scale are equal are equal
-same_divided : (a b scale : ℕ) → 0 < scale → a * scale ≡ b * scale → a ≡ b
-same_divided a b scale some same =
-    let less = same_less a b scale some same in
-    let more = same_less b a scale some (sym same) in
-    omega arith
-
 -- a set that shares at multiples of costs shares at the costs
 set_free : (p : DesignProblem) (w : List ℕ) (scale : ℕ) (set : List ℕ) → 0 < scale → Shares p (scaled w scale) set → Shares p (at_costs w) set
 set_free p w scale set some shares = record {
   tied = λ k d k_in.
       let es = get_or (paths_of p set) k d in
       let first = edges_of p (name_of_set set) in
-      same_divided (cost p.graph (at_costs w) es) (cost p.graph (at_costs w) first) scale some
+      nat_cancel scale (cost p.graph (at_costs w) es) (cost p.graph (at_costs w) first) some
       (sym (scaled_cost p.graph w scale es) ∙ shares.tied k d k_in ∙ scaled_cost p.graph w scale first);
   dearer = λ es outsider.
       let first = edges_of p (name_of_set set) in

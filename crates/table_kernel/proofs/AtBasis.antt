@@ -121,7 +121,7 @@ not_negative : (m : ℕ) (zs : List ℤ) → 0 < m → LeadsPositive (neg_ℤ (p
 not_negative zero zs m_positive leads = absurd (omega arith)
 not_negative (suc m) zs m_positive leads = leads
 
-lead_less : (g : ℕ) (z : ℤ) (zs ms : List ℤ) → 0 < g → (LeadsPositive zs → LeadsPositive ms) → LeadsPositive ((z *ℤ pos g) ∷ zs) → LeadsPositive (z ∷ ms)
+pub lead_less : (g : ℕ) (z : ℤ) (zs ms : List ℤ) → 0 < g → (LeadsPositive zs → LeadsPositive ms) → LeadsPositive ((z *ℤ pos g) ∷ zs) → LeadsPositive (z ∷ ms)
 lead_less (suc g) (pos zero) zs ms g_positive rest leads =
     rest (subst (λ (m : ℕ). LeadsPositive (pos m ∷ zs)) (zero-mul (suc g)) leads)
 lead_less (suc g) (pos (suc n)) zs ms g_positive rest leads = tt

@@ -33,6 +33,7 @@ use Rattle.integer_pivots.specs.Lines.{no_line}
 use Rattle.integer_pivots.specs.Turns.{IsTurnedLine, turn_at, turn_by, turned_number}
 use Rattle.integer_pivots.proofs.TurnLaws.{turn_positive}
 use Rattle.integer_pivots.proofs.ShareLaws.{share_exact}
+use Rattle.integer_pivots.proofs.LowestTurns.{factor_out}
 use Rattle.table_kernel.specs.Bases.{AreAtBasis}
 use Rattle.table_kernel.specs.Numbers.{scaled_line, share_of}
 use Rattle.table_kernel.proofs.AtBasis.{number_scaled, scaled_by}
@@ -93,11 +94,6 @@ basis_turned costs rows basis D lows entering j a b p =
           (λ k k_in other. b.elsewhere j (suc k) p.j_in (omega (arith, k_in)) (λ h. other (suc_inj h))) p.least b.lead;
     }
 
--- a positive factor is left out on both sides
-cancel_positive : (g a b : ℤ) → pos 0 <ℤ g → (a *ℤ g) ≡ (b *ℤ g) → a ≡ b
-cancel_positive (pos n) a b high same = cancel n a b (omega (arith, ints, high)) same
-cancel_positive (negsuc n) a b high same = absurd (omega (arith, ints, high))
-
 -- The number y of a line at the pivot's column, and its turn by the pivot u there: both times the same come to one.
 turn_even : (y u : ℤ) → ((turn_by y u).multiplier *ℤ y) ≡ ((turn_by y u).factor *ℤ u)
 turn_even y u =
@@ -118,9 +114,9 @@ number_crossed : (d m f s r e x y t u T A q new : ℤ) → pos 0 <ℤ d → pos 
 number_crossed d m f s r e x y t u T A q new d_positive m_positive f_positive at_t at_u even is =
     let left = (new *ℤ r) *ℤ ((s *ℤ d) *ℤ A) in
     let right = (((x *ℤ s) *ℤ A) -ℤ ((y *ℤ s) *ℤ T)) *ℤ (r *ℤ e) in
-    cancel_positive d left right d_positive
-    (cancel_positive m (left *ℤ d) (right *ℤ d) m_positive
-    (cancel_positive f ((left *ℤ d) *ℤ m) ((right *ℤ d) *ℤ m) f_positive
+    factor_out left right d d_positive
+    (factor_out (left *ℤ d) (right *ℤ d) m m_positive
+    (factor_out ((left *ℤ d) *ℤ m) ((right *ℤ d) *ℤ m) f f_positive
     (ring_by (d ∷ m ∷ f ∷ s ∷ r ∷ e ∷ x ∷ y ∷ t ∷ u ∷ T ∷ A ∷ q ∷ new ∷ [])
     (((((var 13 ⊗ var 4) ⊗ ((var 3 ⊗ var 0) ⊗ var 11)) ⊗ var 0) ⊗ var 1) ⊗ var 2)
     ((((((var 6 ⊗ var 3) ⊗ var 11) ⊖ ((var 7 ⊗ var 3) ⊗ var 10)) ⊗ (var 4 ⊗ var 5) ⊗ var 0) ⊗ var 1) ⊗ var 2)
@@ -140,8 +136,8 @@ own_crossed : (d m f s r e y u A q new : ℤ) → pos 0 <ℤ d → pos 0 <ℤ m 
 own_crossed d m f s r e y u A q new d_positive m_positive at_u even is =
     let left = (new *ℤ r) *ℤ ((s *ℤ d) *ℤ A) in
     let right = ((y *ℤ s) *ℤ (s *ℤ d)) *ℤ (r *ℤ e) in
-    cancel_positive d left right d_positive
-    (cancel_positive m (left *ℤ d) (right *ℤ d) m_positive
+    factor_out left right d d_positive
+    (factor_out (left *ℤ d) (right *ℤ d) m m_positive
     (ring_by (d ∷ m ∷ f ∷ s ∷ r ∷ e ∷ y ∷ u ∷ A ∷ q ∷ new ∷ [])
     ((((var 10 ⊗ var 4) ⊗ ((var 3 ⊗ var 0) ⊗ var 8)) ⊗ var 0) ⊗ var 1)
     (((((var 6 ⊗ var 3) ⊗ (var 3 ⊗ var 0)) ⊗ (var 4 ⊗ var 5)) ⊗ var 0) ⊗ var 1)

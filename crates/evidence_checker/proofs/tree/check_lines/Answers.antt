@@ -2,6 +2,7 @@ use Rattle.std.proofs.Common.{◌≡◌, ℕ, ◌+◌, sym, ◌∙◌, ap, subst
 use Rattle.std.specs.Prelude.{false}
 use Rattle.std.proofs.lemmas.List.Elements.{All-cons, All-nil}
 use Rattle.cost_base.specs.Order.{FirstOf}
+use Rattle.cost_base.proofs.ListLemmas.{drop_read}
 use Rattle.design_problem.specs.Forms.{IsSmallForm}
 use Rattle.design_problem.specs.declared.form.CostBox.{CostBox}
 use Rattle.design_problem.specs.declared.tree.Entry.{Entry}
@@ -9,7 +10,7 @@ use Rattle.design_problem.specs.Trees.{SoundAt, is_undone}
 use Rattle.evidence_checker.specs.Numbers.{check_fault_number}
 use Rattle.evidence_checker.specs.Tests.{line_tests}
 use Rattle.evidence_checker.proofs.Choices.{when_true, when_false}
-use Rattle.evidence_checker.proofs.WalkLaws.{HaveEnds, Walks, line_read, next_have_ends, walk_begins, walk_ends, walk_goes_on, walk_stops}
+use Rattle.evidence_checker.proofs.WalkLaws.{HaveEnds, Walks, next_have_ends, walk_begins, walk_ends, walk_goes_on, walk_stops}
 use Rattle.evidence_checker.proofs.tree.check_lines.Goals.{After-index-entries-line}
 use Rattle.evidence_checker.proofs.tree.check_lines.Goals as goal
 
@@ -57,7 +58,7 @@ walks_here : (c : After-index-entries-line) →
 walks_here c =
     subst (λ (es : List Entry). Walks c.args.forms.now (c.args.boxes.now.present ∷ []) c.args.entries.now c.loop-line.boxes.present
     c.loop-line.boxes.behind c.loop-line.line es)
-    (line_read c.args.entries.now c.loop-line.line c.index-entries-line.result c.loop-line-test.true c.index-entries-line.is) c.loop-line.invariant.walks
+    (drop_read c.args.entries.now c.loop-line.line c.index-entries-line.result c.loop-line-test.true c.index-entries-line.is) c.loop-line.invariant.walks
 
 pub returns-in-Some-clause-first : goal.returns-in-Some-clause-first
 returns-in-Some-clause-first c =

@@ -1,7 +1,7 @@
 -- the end of each link is at its place
 use Rattle.std.proofs.Common.{◌∙◌, ap, sym, List, slice_get, Some}
 use Rattle.std.proofs.lemmas.Option.{slice_get-get_or}
-use Rattle.lsdb_build.proofs.FirstPlaces.{map_put}
+use Rattle.cost_base.proofs.ListLemmas.{map_put}
 use Rattle.lsdb_build.proofs.Pairs.{at_map}
 use Rattle.lsa_writer.specs.declared.ends.LinkEnd.{LinkEnd}
 use Rattle.lsa_writer.specs.Ends.{end_of}
