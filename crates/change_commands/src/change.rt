@@ -127,7 +127,12 @@ fn report_of_network<'a>(
         network.now.lsdb network.now.problem) }
     ensures wanting { IfErr result (λ stop. stop ≡ Stop.OutOfMemory) }
 {
-    let costs = present_of_variables(alloc, &network.request_file, &network.lsdb, &network.problem)?;
+    let costs = present_of_variables(
+        alloc,
+        &network.request_file,
+        &network.lsdb,
+        &network.problem,
+    )?;
     Ok(report_of_present(alloc, network, costs.as_slice(), limits)?)
 }
 

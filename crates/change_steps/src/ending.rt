@@ -10,11 +10,11 @@ ghost use Rattle.change_steps.specs.Search.{AreBlockedIn, IsStateOf, IsStepBlock
 ghost use Rattle.change_steps.specs.Walks.{IsWalkEnded, IsSearchWalk};
 
 use crate::found::{Barrier, Blocked, Outcome, Stuck};
-use crate::kinds::Kind;
 use crate::held_rollout::Plan;
+use crate::kinds::Kind;
 use crate::state::State;
-use crate::tested::Tested;
 use crate::state_search::{End, Walk};
+use crate::tested::Tested;
 use cost_base::OutOfMemory;
 use spf_ties::Room;
 use std::alloc::Global;

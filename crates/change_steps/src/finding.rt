@@ -8,8 +8,8 @@ ghost use Rattle.change_steps.specs.Walks.{IsBegun};
 
 use crate::ending::outcome_of;
 use crate::found::{Outcome, Steps};
-use crate::moves::Moves;
 use crate::held_rollout::Plan;
+use crate::moves::Moves;
 use crate::rollout::Rollout;
 use crate::state_search::Walk;
 use area_graph::Graph;
@@ -61,8 +61,12 @@ pub fn find_steps(
     requires priced { All (λ edge. IsPriced (length moves.now.present) edge.price) graph.now.edges }
     requires requests { ArePathsOf graph.now requests.now }
     requires few { length requests.now ≤ 10000 }
-    ensures { IfOk result (AreStepsFound (record { graph = graph.now; requests = requests.now; moves
-        = moves.now }) nodes) }
+    ensures { IfOk result (AreStepsFound (record {
+      graph = graph.now;
+      requests = requests.now;
+      moves
+          = moves.now;
+    }) nodes) }
 {
     let rollout = Rollout::new(graph, requests, moves);
     let mut room = Room::new(alloc, graph)?;

@@ -23,8 +23,11 @@ impl<'a> Model for Rollout<'a> {
 
     ghost Value = { OneRollout };
 
-    ghost view = { λ r. record { graph = r.graph.now; requests = r.requests.now; moves = r.moves.now
-        } };
+    ghost view = { λ r. record {
+      graph = r.graph.now;
+      requests = r.requests.now;
+      moves = r.moves.now;
+    } };
 
     ghost invariant = { λ r. IsRollout (record {
       graph = r.graph.now;
@@ -40,8 +43,12 @@ impl<'a> Rollout<'a> {
             graph.now.edges }
         requires requests { ArePathsOf graph.now requests.now }
         requires few { length requests.now ≤ 10000 }
-        ensures { result ≡ record { graph = graph.now; requests = requests.now; moves =
-            moves.now } }
+        ensures { result ≡ record {
+          graph = graph.now;
+          requests = requests.now;
+          moves =
+              moves.now;
+        } }
     {
         graph.keeps_conditions();
         moves.keeps_conditions();

@@ -9,8 +9,8 @@ ghost use Rattle.change_steps.specs.States.{MayFollow, marks_of};
 ghost use Rattle.change_steps.specs.Search.{AllLack, IsNewStep, IsStateOf, longer_of};
 ghost use Rattle.change_steps.specs.Walks.{IsBegun, IsWalkEnded, IsAfterRound, IsUnderWay, IsSearchWalk, position_of};
 
-use crate::kinds::Kind;
 use crate::held_rollout::Plan;
+use crate::kinds::Kind;
 use crate::state::State;
 use crate::tested::Tested;
 use cost_base::OutOfMemory;

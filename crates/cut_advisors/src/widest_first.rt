@@ -59,9 +59,7 @@ fn first_of_width(candidates: &[Candidate], wanted: u16) -> Option<usize>
     ensures { result ≡ position (λ candidate. width candidate == wanted) candidates.now }
 {
     // Nothing saturates: see `wider`.
-    candidates
-        .iter()
-        .position(|candidate| candidate.high.saturating_sub(candidate.low) == wanted)
+    candidates.iter().position(|candidate| candidate.high.saturating_sub(candidate.low) == wanted)
 }
 
 /// The candidates whose positions are numbers of 32 bits.

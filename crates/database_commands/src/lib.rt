@@ -3,12 +3,12 @@
 #![tactic(auto)]
 
 mod compare;
-mod routers;
 mod differences;
 mod hops;
 mod identified;
 mod lsas;
 mod route;
+mod routers;
 mod vertices;
 
 pub use compare::compare_report;

@@ -11,8 +11,8 @@ ghost use Rattle.database_commands.specs.Found.{EndsBy, IsFoundEnd, end_by};
 ghost use Rattle.database_commands.specs.Routes.{IsRoute, MayRoute, route_read, vertex_ids, vertex_of_router};
 ghost use Rattle.report_writer.specs.Reports.{bytes_in};
 
-use crate::routers::check_router;
 use crate::hops::RoutedGraph;
+use crate::routers::check_router;
 use crate::vertices::{vertex_ids, vertex_of};
 use area_graph::{Graph, empty_point};
 use cost_base::{OutOfMemory, Shelf, Status};

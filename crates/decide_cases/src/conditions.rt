@@ -161,7 +161,13 @@ fn are_free(vars: &[VarName], count: usize) -> bool
 }
 
 /// Whether these are the parts of a problem.
-fn are_parts(graph: &Graph, vars: &[VarName], low: &[u16], high: &[u16], requests: &[Request]) -> bool
+fn are_parts(
+    graph: &Graph,
+    vars: &[VarName],
+    low: &[u16],
+    high: &[u16],
+    requests: &[Request],
+) -> bool
     ensures { IsTrue result →
         IsProblem (record {
           graph = graph.now;

@@ -118,7 +118,13 @@ fn graph_of(
 
 /// The problem of these parts, where they are those of one.
 fn problem_of(graph: Graph, lists: Lists) -> Option<Problem> {
-    if !is_problem(&graph, &lists.vars, &lists.low, &lists.high, &lists.requests) {
+    if !is_problem(
+        &graph,
+        &lists.vars,
+        &lists.low,
+        &lists.high,
+        &lists.requests,
+    ) {
         return None;
     }
     let Lists {

@@ -160,7 +160,12 @@ pub(crate) fn job_report<'a, S: Shelf>(
             nodes,
             by,
             configs,
-        } => steps_report(alloc, files(request, configs), steps_words(answer, *nodes, *by), shelf),
+        } => steps_report(
+            alloc,
+            files(request, configs),
+            steps_words(answer, *nodes, *by),
+            shelf,
+        ),
         Job::Compare {
             live,
             request,

@@ -5,7 +5,7 @@ ghost use Rattle.area_graph.specs.Paths.{IsPathOf};
 ghost use Rattle.design_problem.specs.Problems.{request_ends};
 ghost use Rattle.evidence_checker.specs.Costs.{IsFirstTied};
 
-use area_graph::{Graph, Point, BorrowedRequest, is_only_cheapest, point_of};
+use area_graph::{BorrowedRequest, Graph, Point, is_only_cheapest, point_of};
 use cost_base::OutOfMemory;
 use design_problem::Request;
 use std::alloc::Global;

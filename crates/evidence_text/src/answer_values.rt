@@ -8,7 +8,9 @@ ghost use Rattle.design_problem.specs.AnswerRanges.{BoundsCosts, BoundsEntry, Bo
 ghost use Rattle.design_problem.specs.AnswerRanges.{IsRowNumber, IsIndex};
 ghost use Rattle.evidence_text.specs.AnswerValues.{IsAnswerValue};
 
-use design_problem::{Answer, CapTree, CostLine, Costs, Entry, Floor, Member, Multipliers, Row, Verdict};
+use design_problem::{
+    Answer, CapTree, CostLine, Costs, Entry, Floor, Member, Multipliers, Row, Verdict,
+};
 
 /// Keeps that the number of a variable, a request or an edge has 32 bits: a number that is passed is in
 /// its type's range.

@@ -227,7 +227,12 @@ impl Tableau {
     /// # Errors
     ///
     /// `TooWide` where a step makes a whole number that passes the top; `OutOfMemory`. After both `into` is as before.
-    pub fn multipliers(&self, alloc: Global, form: u64, into: &mut Multipliers) -> Result<(), SimplexStop>
+    pub fn multipliers(
+        &self,
+        alloc: Global,
+        form: u64,
+        into: &mut Multipliers,
+    ) -> Result<(), SimplexStop>
         requires solved { self.now.stage ≡ Ended (Refuted form) }
         ensures refutes { OnOk result (Refutes self.now.rows into.new self.now.costs) }
         ensures few { OnOk result (length into.new ≤ suc (length self.now.costs.low)) }

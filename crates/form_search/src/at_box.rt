@@ -16,9 +16,9 @@ ghost use Rattle.form_search.specs.Points.{AreCostsOf, IsCostsBox, IsFractional,
 ghost use Rattle.form_search.specs.NextEntries.{IsDesk, IsNextStep, IsSplitAt};
 
 use crate::candidates::candidates_of;
+use crate::costs_of_points::{are_values_accepted, is_whole, value_costs, whole_costs};
 use crate::desk::{Desk, Next, halved};
 use crate::one_point::{at_one_point, is_one_point};
-use crate::costs_of_points::{are_values_accepted, is_whole, value_costs, whole_costs};
 use crate::propagation::propagated;
 use crate::relaxation::{Relaxed, relax};
 use crate::watch::Watch;

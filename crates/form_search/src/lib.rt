@@ -5,16 +5,16 @@
 
 mod at_box;
 mod candidates;
-mod found;
-mod desk;
-mod one_point;
 mod costs_of_points;
+mod desk;
+mod found;
+mod held_tableau;
+mod one_point;
 mod pool;
 mod propagation;
 mod relaxation;
 mod searching;
 mod source;
-mod held_tableau;
 mod watch;
 
 pub use found::Found;

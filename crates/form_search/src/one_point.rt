@@ -5,8 +5,8 @@ ghost use Rattle.form_search.specs.Calls.{AreInStep, Leaves};
 ghost use Rattle.form_search.specs.Points.{IsCostsBox};
 ghost use Rattle.form_search.specs.NextEntries.{IsNextOfPoint};
 
-use crate::desk::Next;
 use crate::costs_of_points::{low_costs, put_costs};
+use crate::desk::Next;
 use crate::propagation::{first_negative, refute_by};
 use crate::{Asked, FormPool, RowSource};
 use area_graph::Point;

@@ -14,7 +14,9 @@ use crate::floor::floor_of;
 use crate::so_far::{Best, SoFar};
 use cost_base::OutOfMemory;
 use cost_branching::Pool;
-use design_problem::{Answer, CapTree, CostList, Costs, Floor, Problem, Tree, Verdict, keeps_problem_on_graph};
+use design_problem::{
+    Answer, CapTree, CostList, Costs, Floor, Problem, Tree, Verdict, keeps_problem_on_graph,
+};
 use printed_rows::{printed_both, printed_costs};
 use std::alloc::Global;
 

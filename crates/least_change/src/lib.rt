@@ -14,10 +14,10 @@ pub mod laws;
 mod looking;
 mod naming;
 mod question;
+mod round;
 mod searching;
 mod so_far;
 mod telling;
-mod round;
 
 pub use change::{Change, Core, Cores, CoverTree, KeptTree};
 pub use core_covers::CoverEntry;

@@ -12,7 +12,7 @@ use crate::links::{LiveLink, live_links};
 use crate::metrics::EndMetrics;
 use cost_base::{Listed, Name, OutOfMemory, push_if};
 use interface_model::RouterConfig;
-use lsa_bytes::{LsaDatabase, Lsa};
+use lsa_bytes::{Lsa, LsaDatabase};
 use lsa_writer::{LinkEnd, ends_of};
 use lsdb_build::{Linked, Lsdb};
 use std::alloc::Global;

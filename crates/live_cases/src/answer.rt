@@ -1,7 +1,7 @@
 //! What is answered to a line: the router-LSAs that a live file says of an area, or why it is refused.
 use case_scripts::bytes_of;
 use live_reader::read_live;
-use lsa_bytes::{Body, LsaDatabase, Lsa, LsaLink};
+use lsa_bytes::{Body, Lsa, LsaDatabase, LsaLink};
 use std::alloc::{AllocError, Global};
 use text_lines::area;
 

@@ -17,7 +17,7 @@ use crate::lsas::live_lsas;
 use crate::text::{is_space, line_of_offset, token_line};
 use cost_base::{OutOfMemory, Refusal};
 use json::{Reader, Scratch, Tape, Token};
-use lsa_bytes::{LsaDatabase, Instance, database_of, read_lsas};
+use lsa_bytes::{Instance, LsaDatabase, database_of, read_lsas};
 use std::alloc::Global;
 
 /// How deep arrays and objects may nest.

@@ -66,7 +66,10 @@ fn push_instances(
 ///
 /// `Refused` with the place of the first instance that counts and has a fault, and of its faults the first in the order
 /// `TooManyRouters`, `LsaTwice`, `ZeroMetric`. `OutOfMemory` where memory runs out.
-pub fn database_of(alloc: Global, instances: Vec<Instance>) -> Result<LsaDatabase, Refusal<LsaFault>>
+pub fn database_of(
+    alloc: Global,
+    instances: Vec<Instance>,
+) -> Result<LsaDatabase, Refusal<LsaFault>>
     requires { AreSmall instances.items (2 ^ 32 - 2) }
     ensures { MatchResult result (λ database. (fault_among instances.items ≡ None) ×
         (database ≡ lsas_of (those_that_count instances.items)))

@@ -2,8 +2,8 @@
 
 use crate::networks::{point, said};
 use area_graph::{
-    Graph, Path, Point, BorrowedRequest, avoids, is_only_cheapest, is_path_of, is_simple, path_cost,
-    point_fits,
+    BorrowedRequest, Graph, Path, Point, avoids, is_only_cheapest, is_path_of, is_simple,
+    path_cost, point_fits,
 };
 use case_scripts::{Written, next_number, next_numbers, next_word};
 use cost_base::{Listed, OutOfMemory};

@@ -11,11 +11,11 @@ ghost use Rattle.form_search.specs.AdvisorsAsked.{AreCalled};
 ghost use Rattle.path_commands.specs.Conflicts.{MayConflict, TellsConflict, conflict_text, conflict_status};
 
 use crate::conflict_text::text_of_conflict;
-use least_conflict::{Conflict, find_conflict};
 use cost_base::{OutOfMemory, Shelf, Status};
 use cut_advisors::Advisor;
 use design_problem::Problem;
 use input_files::{FileWords, Stop, View, read_problem};
+use least_conflict::{Conflict, find_conflict};
 use report_writer::Report;
 use std::alloc::Global;
 use wide_fraction::Limits;

@@ -8,10 +8,10 @@ ghost use Rattle.least_conflict.specs.Conflicts.{IsConflictFound, IsLeastConflic
 ghost use Rattle.path_commands.specs.Conflicts.{conflict_text, members_line, without_line, without_parts};
 ghost use Rattle.printed_parts.specs.SharedParts.{costs_part};
 
-use least_conflict::{Conflict, all_requests};
 use cost_base::OutOfMemory;
 use design_problem::{CostList, Problem, Row, Tree, keeps_problem_on_graph};
 use evidence_text::{TreePart, push_costs, push_evidence};
+use least_conflict::{Conflict, all_requests};
 use line_builder::{LineBuilder, head_lines, push_line};
 use printed_parts::{at_greatest_bound, costs_by_name};
 use std::alloc::Global;

@@ -140,7 +140,11 @@ fn ranges_or(
 
 /// The range of each link: the last line that says it counts. One pass over the lines, whose links are looked up by
 /// their names.
-pub fn ranges_by(alloc: Global, names: &Names, items: &[DirectiveLine]) -> Result<Vec<Range>, OutOfMemory>
+pub fn ranges_by(
+    alloc: Global,
+    names: &Names,
+    items: &[DirectiveLine],
+) -> Result<Vec<Range>, OutOfMemory>
     ensures { IfOk result (λ ranges. ranges.items ≡ map (λ link. range_by names.now link items.now)
         names.now.links) }
 {

@@ -90,7 +90,11 @@ fn mark_lines(names: &Names, items: &[DirectiveLine], marks: &mut Vec<bool>)
 
 /// Whether a line makes each link symmetric, without the lines of its other end. One pass over the lines, whose links
 /// are looked up by their names.
-pub fn symmetric_by(alloc: Global, names: &Names, items: &[DirectiveLine]) -> Result<Vec<bool>, OutOfMemory>
+pub fn symmetric_by(
+    alloc: Global,
+    names: &Names,
+    items: &[DirectiveLine],
+) -> Result<Vec<bool>, OutOfMemory>
     ensures { IfOk result (λ marks. marks.items ≡ map (λ link.
         list_any (λ item. says_symmetric names.now link item.what) items.now) names.now.links) }
 {

@@ -197,7 +197,10 @@ fn ties_different(choices: &Choices, any: bool, directive: &Directive) -> bool
 }
 
 /// Whether no line makes a link symmetric whose ends differ; the first that does.
-pub fn check_ends(choices: &Choices, items: &[DirectiveLine]) -> Result<(), Refusal<ResolutionFault, ()>>
+pub fn check_ends(
+    choices: &Choices,
+    items: &[DirectiveLine],
+) -> Result<(), Refusal<ResolutionFault, ()>>
     ensures made { OnOk result (ends_faults choices.now.asked choices.now.database items.now ≡ []) }
     ensures refused { IfErr result
         (TellsResolution

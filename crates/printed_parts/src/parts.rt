@@ -11,7 +11,9 @@ ghost use Rattle.printed_parts.specs.SharedParts.{at_greatest_bound};
 ghost use Rattle.printed_rows.specs.PrintedCosts.{named_costs};
 
 use cost_base::OutOfMemory;
-use design_problem::{CapTree, CostList, Costs, Problem, Tree, greatest_of, keeps_problem_on_graph};
+use design_problem::{
+    CapTree, CostList, Costs, Problem, Tree, greatest_of, keeps_problem_on_graph,
+};
 use evidence_text::{TreePart, push_capped_tree};
 use printed_rows::printed_costs;
 use std::alloc::Global;

@@ -94,7 +94,11 @@ fn new_pairs(
 }
 
 /// The Refute's rows with their new numbers.
-fn new_parts(alloc: Global, parts: &Multipliers, numbers: &[u64]) -> Result<Multipliers, OutOfMemory>
+fn new_parts(
+    alloc: Global,
+    parts: &Multipliers,
+    numbers: &[u64],
+) -> Result<Multipliers, OutOfMemory>
     requires known { All (λ part. part.0 < length numbers.now) parts.now }
     requires order { PartsKeepOrder (number_given numbers.now) parts.now }
     ensures { IfOk result (λ new. new ≡ map (renumbered_multiplier (number_given numbers.now))

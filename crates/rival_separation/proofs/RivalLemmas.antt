@@ -199,7 +199,7 @@ cheapest_by g p ends limit room wanted place e total graph fits found path devia
     record {
       rival = (
         record { simple = record { start = path.simple.start; end = path.simple.end; joins = joins.0; none_twice = once }; kept = joins.1 },
-        deviation_differs g ends.excluded ends.end ends.start wanted (take place wanted ++ e ∷ rest) deviates
+        deviation_differs g ends.excluded ends.end ends.start wanted (take place wanted ++ e ∷ rest) deviates,
       );
       cheap = omega (arith, whole, cheap);
       none_less = λ other rival. (let above =

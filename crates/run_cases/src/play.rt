@@ -1,6 +1,6 @@
 //! A run of a case, compared with what it is to come to.
 
-use crate::advisors::{CaseAdvisor, Always};
+use crate::advisors::{Always, CaseAdvisor};
 use crate::case::{Case, Wanted};
 use cost_base::{MemoryShelf, MemorySink, Shelf, Sink, Status, SureShelf, SureSink};
 use cut_advisors::{Advisor, SmallestNumber};

@@ -5,10 +5,10 @@
 mod costs;
 mod fault;
 mod heads;
-mod whose_text;
 pub mod laws;
 mod reader;
 mod unread;
+mod whose_text;
 
 pub use fault::CostsFault;
 pub use reader::read_costs;

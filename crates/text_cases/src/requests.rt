@@ -6,7 +6,9 @@ use crate::problems::problem_text;
 use cost_base::{Name, Refusal};
 use lsdb_build::Lsdb;
 use path_requests::{resolve, resolve_present};
-use request_reader::{Directive, DirectiveLine, Excluded, RequestFault, RequestFile, read_request_file};
+use request_reader::{
+    Directive, DirectiveLine, Excluded, RequestFault, RequestFile, read_request_file,
+};
 use std::alloc::{AllocError, Global};
 use std::fmt;
 

@@ -16,7 +16,7 @@ use crate::routes::{Walk, next_name, resolve_walk};
 use area_graph::{Graph, mark_excluded};
 use cost_base::{Listed, OutOfMemory, Refusal, no_marks};
 use design_problem::Request;
-use request_reader::{Hops, Excluded};
+use request_reader::{Excluded, Hops};
 use std::alloc::Global;
 use std::marker::Model;
 

@@ -6,7 +6,7 @@ ghost use Rattle.request_reader.specs.ReadingLines as definition;
 ghost use Rattle.request_reader.specs.ReadingLines.{to_without, behind_without, excluded_parts, parts_by_words};
 
 use crate::reading::statement::Statement;
-use crate::{Directive, Hops, Excluded, RequestFault};
+use crate::{Directive, Excluded, Hops, RequestFault};
 use cost_base::{Listed, Name, OutOfMemory, push_last};
 use std::alloc::Global;
 use text_lines::{cut, first_word};
