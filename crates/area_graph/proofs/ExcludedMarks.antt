@@ -1,10 +1,14 @@
 -- Marks for the edges that are excluded.
-use Rattle.std.proofs.Common.{◌≡◌, ℕ, ◌+◌, ◌<◌, ◌≤◌, sym, ◌∙◌, ap, subst, inl, inr, take, List, [], ◌∷◌, ◌++◌, length, get_or, set, Bool, true, false, arith, get_or-set_same, get_or-set_other, length-set}
+use Rattle.std.proofs.Common.{◌≡◌, ℕ, ◌+◌, ◌<◌, ◌≤◌, sym, ◌∙◌, ap, subst, inl, inr, take, List, [], ◌∷◌, ◌++◌, length, get_or, set, replicate, Bool, true, false, arith, get_or-set_same, get_or-set_other, length-set}
 use Rattle.std.proofs.lemmas.Bool.{cases_lt}
-use Rattle.std.proofs.lemmas.List.{set_past, take_more}
+use Rattle.std.proofs.lemmas.List.{get_or-replicate, length-replicate, set_past, take_more}
 use native.Mathlib.Decide.{ℕ_discrete}
 use Rattle.area_graph.specs.Distances.{AreEdgeMarks}
 use Rattle.cost_base.proofs.ListLemmas.{lacks_push, lacks_first, lacks_seam}
+
+-- no mark is set, and nothing is excluded
+pub no_marks : (n : ℕ) → AreEdgeMarks [] (replicate n false)
+no_marks n e within = (λ clear. tt, λ lacks. get_or-replicate n e false true (let count = length-replicate n false in omega arith))
 
 -- one number more is excluded, which stands for an edge past the end
 pub marks_past : (excluded : List ℕ) (y : ℕ) (marks : List Bool) → AreEdgeMarks excluded marks → length marks ≤ y → AreEdgeMarks (excluded ++ y ∷ []) marks

@@ -19,6 +19,20 @@ pub record Passed (g : Area) (p : Point) (excluded : List ℕ) (n : ℕ) (old d 
   pub same : lowered ≡ false → sum d ≡ sum old
   pub settled : lowered ≡ false → SettledBelow n g p excluded d
 
+-- a pass begins
+pub passed_none : (g : Area) (p : Point) (excluded : List ℕ) (d : List ℕ) → All (λ x. x ≤ far p) d → Passed g p excluded 0 d d false
+passed_none g p excluded d bounded = record {
+  count = refl;
+  bounded = bounded;
+  reached = λ t limit are. are;
+  lower = λ h. absurd (clash h);
+  same = λ h. refl;
+  settled = λ h e below lacks. absurd (omega arith);
+}
+  where
+    clash : false ≡ true → ⊥
+    clash h = cc
+
 -- an edge that is excluded, or leads to no smaller number
 pub passed_stays : (g : Area) (p : Point) (excluded : List ℕ) (n : ℕ) (old d new : List ℕ) (lowered : Bool) →
     Passed g p excluded n old d lowered → new ≡ d → (Lacks excluded n → StaysBy p (edge_at g n) d new) →

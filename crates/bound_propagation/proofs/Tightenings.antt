@@ -7,9 +7,9 @@ use Rattle.design_problem.specs.declared.form.CostBox.{CostBox}
 use Rattle.design_problem.specs.declared.form.Term.{Term}
 use Rattle.design_problem.specs.declared.tree.Side.{Side}
 use Rattle.design_problem.specs.declared.tree.Side.TheVariants.{Low, High}
-use Rattle.design_problem.specs.Forms.{Form, terms_of}
+use Rattle.design_problem.specs.Forms.{Form, form_at, terms_of}
 use Rattle.design_problem.specs.Boxes.{upper_term, upper_sum, greatest, with_low, with_high}
-use Rattle.design_problem.specs.Trees.{IsSmaller, removed}
+use Rattle.design_problem.specs.Trees.{IsSmaller, removed, TightensAt}
 use Rattle.design_problem.specs.Earnest.{at_bound}
 use Rattle.bound_propagation.specs.Ranges.{IsExactBound, HasNoBound}
 use Rattle.bound_propagation.specs.Tightening.{IsExactTightening, NoneAt, NoneBefore}
@@ -135,6 +135,17 @@ none_of_range f box var slack c l h Low value place all none smaller refuted =
 none_of_range f box var slack c l h High value place all none smaller refuted =
     none High value (omega (arith, place.low, smaller.0), omega (arith, place.high, smaller.1))
     (omega (arith, ints, low_moved f box var (value + 1) c l h place, all, refuted))
+
+-- a tightening by a row's form is a sound step of a branching tree
+pub tightens_at : (forms : List Form) (box : CostBox) (side : Side) (var value row : ℕ) → row < length forms →
+    IsExactTightening (form_at forms row) box side var value → TightensAt forms box side var value row
+tightens_at forms box side var value row known step =
+    record {
+      var_known = step.var_known;
+      smaller = step.smaller;
+      row_known = known;
+      refuted = step.refuted;
+    }
 
 -- with coefficient 0 no part is refuted
 none_of_zero : (f : Form) (box : CostBox) (var slack : ℕ) → var < length f.coefficients →

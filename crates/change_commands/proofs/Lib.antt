@@ -3,6 +3,7 @@ pub mod ChangeTexts
 pub mod PresentCosts
 pub mod ShortLines
 pub mod ChangeRuns
+pub mod ChangeEnds
 pub mod PlanLaws
 pub mod StepRuns
 pub mod StepTexts

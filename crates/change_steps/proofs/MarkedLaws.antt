@@ -1,10 +1,10 @@
 -- Variables on paths, item by item, and edges that have variables of their own.
-use Rattle.std.proofs.Common.{◌≡◌, ℕ, ◌+◌, ◌<◌, refl, sym, ◌∙◌, ap, subst, List, [], ◌++◌, All, length, get_or, set, take, drop, inl, inr, arith, Bool, true, false, ◌||◌, ◌&&◌}
+use Rattle.std.proofs.Common.{◌≡◌, ℕ, ◌+◌, ◌<◌, ◌≤◌, refl, sym, ◌∙◌, ap, subst, List, [], ◌++◌, All, length, get_or, set, take, drop, inl, inr, arith, Bool, true, false, ◌||◌, ◌&&◌, take_all}
 use Rattle.std.specs.Prelude.{not, ◌==◌}
 use Rattle.std.proofs.Math.Bool.{or_assoc}
 use Rattle.std.proofs.lemmas.Bool.{and_from, and_parts, both_ways, cases_lt, not_from_false, not-true, false≢true, and_right}
 use Rattle.std.proofs.lemmas.List.{drop_more, take-append-drop}
-use Rattle.std.proofs.lemmas.List.Folds.{list_all_at, list_all_more, list_any_more}
+use Rattle.std.proofs.lemmas.List.Folds.{list_all_at, list_all_more, list_any_at, list_any_more}
 use Rattle.std.specs.List.{list_all}
 use Rattle.cost_base.specs.Marks.{is_marked}
 use Rattle.cost_base.proofs.MarkLaws.{written_mark}
@@ -37,6 +37,13 @@ pub goes_more : (g : Area) (es : List ℕ) (i v : ℕ) → i < length es →
     goes_over g (take (i + 1) es) v ≡ (goes_over g (take i es) v || is_var v (edge_at g (get_or es i 0)).price)
 unfolding goes_over
 goes_more g es i v within = list_any_more (λ e. is_var v (edge_at g e).price) es i 0 within
+
+pub goes_at : (g : Area) (es : List ℕ) (i v : ℕ) → i < length es → is_var v (edge_at g (get_or es i 0)).price ≡ true → true ≡ goes_over g es v
+unfolding goes_over
+goes_at g es i v within is = sym (list_any_at (λ e. is_var v (edge_at g e).price) es i 0 within is)
+
+pub goes_all : (g : Area) (es : List ℕ) (i v : ℕ) → length es ≤ i → goes_over g (take i es) v ≡ goes_over g es v
+goes_all g es i v past = ap (λ (xs : List ℕ). goes_over g xs v) (take_all i es past)
 
 -- marks of a path with one edge more
 pub path_more : (g : Area) (es : List ℕ) (i v : ℕ) (was here now : Bool) → i < length es → here ≡ (was || goes_over g (take i es) v) →

@@ -118,6 +118,9 @@ least_more g p target x least n found count are is below = λ v path way. elim (
   ]
 ]
 
+pub at_least_none : (g : Area) (p : Point) → AreLeastToEach g p []
+at_least_none g p = λ target. subst (AreLeastTo g p target) (sym (get_or_past {X = List ℕ} [] target [] (omega arith))) (least_none g p target)
+
 pub at_least_more : (g : Area) (p : Point) (n : ℕ) (least : List (List ℕ)) (row : List ℕ) → length least ≡ n → AreLeastToEach g p least → AreLeastTo g p n row →
     AreLeastToEach g p (least ++ row ∷ [])
 at_least_more g p n least row count are is = λ target. elim (cases_lt target n) [

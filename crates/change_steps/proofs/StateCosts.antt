@@ -1,7 +1,7 @@
 -- The costs in a state, by the steps that are done.
-use Rattle.std.proofs.Common.{◌≡◌, ℕ, ◌<◌, ◌≤◌, refl, sym, ◌∙◌, ap, subst, List, [], ◌∷◌, length, get_or, inl, inr, arith, All, Bool, true, false, cond, ◌&&◌, ◌==◌, eq-eqb, zero-add}
+use Rattle.std.proofs.Common.{◌≡◌, ℕ, ◌<◌, ◌≤◌, refl, sym, ◌∙◌, ap, subst, List, [], ◌∷◌, length, get_or, inl, inr, arith, All, Bool, true, false, cond, ◌&&◌, ◌==◌, eq-eqb, eqb-true, zero-add}
 use Rattle.std.specs.List.{list_any}
-use Rattle.std.proofs.lemmas.Bool.{and_from, and_parts, cases_Bool, cond-true, cond-false, cases_lt, or_left, or_right}
+use Rattle.std.proofs.lemmas.Bool.{and_from, and_parts, cases_Bool, cond-true, cond-false, cases_lt, or_cases, or_left, or_right, false≢true}
 use Rattle.std.proofs.lemmas.List.{get_or_default, get_or_past}
 use Rattle.std.proofs.lemmas.List.Folds.{Any-from_list_any, list_any_at}
 use Rattle.cost_base.specs.Lists.{Has, numbers_from}
@@ -131,6 +131,11 @@ price_le ws vs Zero each = omega arith
 is_var_of : (v : ℕ) (price : Price) → price ≡ Var v → is_var v price ≡ true
 is_var_of v price is = ap (is_var v) is ∙ eq-eqb v v refl
 
+var_is : (v : ℕ) (price : Price) → is_var v price ≡ true → price ≡ Var v
+var_is v (Fixed c) is = absurd (false≢true is)
+var_is v (Var u) is = ap Var (eqb-true u v is)
+var_is v Zero is = absurd (false≢true is)
+
 -- a path goes over a variable exactly where an edge of it has that price
 pub goes_if : (g : Area) (es : List ℕ) (e v : ℕ) → Has es e → (edge_at g e).price ≡ Var v → goes_over g es v ≡ true
 unfolding goes_over
@@ -139,6 +144,14 @@ goes_if g (x ∷ xs) e v has price = elim has [
   | inl same ↦ or_left (is_var v (edge_at g x).price) (goes_over g xs v)
       (is_var_of v (edge_at g x).price (ap (λ (i : ℕ). (edge_at g i).price) (sym same) ∙ price))
   | inr later ↦ or_right (is_var v (edge_at g x).price) (goes_over g xs v) (goes_if g xs e v later price)
+]
+
+pub goes_by : (g : Area) (es : List ℕ) (v : ℕ) → goes_over g es v ≡ true → (e : ℕ) × Has es e × ((edge_at g e).price ≡ Var v)
+unfolding goes_over
+goes_by g [] v goes = absurd (false≢true goes)
+goes_by g (x ∷ xs) v goes = elim (or_cases (is_var v (edge_at g x).price) (goes_over g xs v) goes) [
+  | inl here ↦ (x, inl refl, var_is v (edge_at g x).price here)
+  | inr later ↦ let by = goes_by g xs v later in (by.0, inr by.1, by.2)
 ]
 
 -- the costs of two states compare as those of each variable

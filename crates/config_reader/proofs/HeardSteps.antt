@@ -313,6 +313,18 @@ pub record HeardTo (bytes : List ℕ) (left : TextLeft) (reader : Heard) : Type 
   pub longest : left.longest ≡ 4096
   pub kept : reader ≡ heard file
 
+pub heard_none : (bytes : List ℕ) (left : TextLeft) (reader : Heard) →
+    left ≡ record { bytes = bytes; read = 0; ended = true; longest = 4096 } →
+    reader ≡ record { said = []; heads = []; hostname = None; fault = None; block = OfOther } →
+    HeardTo bytes left reader
+heard_none bytes left reader start kept = record {
+  file = [];
+  split = ap (λ (t : TextLeft). lines t.bytes) (sym start);
+  counted = ap (λ (t : TextLeft). t.read) start;
+  longest = ap (λ (t : TextLeft). t.longest) start;
+  kept = kept;
+}
+
 more_of : (bytes : List ℕ) (old new : TextLeft) (reader next : Heard) (text : List ℕ)
     (so_far : HeardTo bytes old reader) → GoesOver old new text → next ≡ heard (so_far.file ++ text ∷ []) →
     HeardTo bytes new next
@@ -342,3 +354,7 @@ heard_long bytes old new reader next long so_far is_long step =
     ∙ ap (λ h. with_fault h long.number LongLine) so_far.kept
     ∙ ap (λ n. with_fault (heard so_far.file) n LongLine) (is_long.2.counted ∙ ap (λ n. n + 1) so_far.counted)
     ∙ hears_long so_far.file is_long.0 (lt-leb (length is_long.0) 4096 (omega (arith, is_long.2.over, so_far.longest))))
+
+pub heard_all : (bytes : List ℕ) (left : TextLeft) (reader : Heard) → HeardTo bytes left reader → left.bytes ≡ [] → reader ≡ heard (lines bytes)
+heard_all bytes left reader so_far done =
+    so_far.kept ∙ ap heard (sym (so_far.split ∙ ap (λ b. so_far.file ++ lines b) done ∙ append-nil so_far.file))

@@ -1,5 +1,5 @@
 -- Lists read by places, and lists with one more element.
-use Rattle.std.proofs.Common.{◌≡◌, ℕ, zero, suc, ◌+◌, ◌<◌, ◌≤◌, List, [], ◌∷◌, ◌++◌, Bool, cond, true, false, refl, sym, ap, ◌∙◌, arith, map, Option, Some, None, get_or, append-nil}
+use Rattle.std.proofs.Common.{◌≡◌, ℕ, zero, suc, ◌+◌, ◌<◌, ◌≤◌, List, [], ◌∷◌, ◌++◌, Bool, cond, true, false, refl, sym, ap, ◌∙◌, arith, map, Option, Some, None, get_or, length, append-nil}
 use Rattle.std.specs.List.{filter, filter_map, cons_option}
 use Rattle.std.specs.Prelude.{slice_get}
 use Rattle.std.proofs.lemmas.List.{map-append}
@@ -73,3 +73,9 @@ pub absent : {X : Type 0} (xs : List X) (k : ℕ) (d : X) → slice_get xs k ≡
 absent [] k d none = refl
 absent (x ∷ xs) zero d none = absurd (cc)
 absent (x ∷ xs) (suc k) d none = absent xs k d none
+
+-- an element within a list
+pub slice_get-within : {X : Type 0} (xs : List X) (k : ℕ) (d : X) → k < length xs → slice_get xs k ≡ Some (get_or xs k d)
+slice_get-within [] k d within = absurd (omega arith)
+slice_get-within (x ∷ xs) zero d within = refl
+slice_get-within (x ∷ xs) (suc k) d within = slice_get-within xs k d (omega arith)

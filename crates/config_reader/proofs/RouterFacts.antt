@@ -41,6 +41,9 @@ FitsStatement _ = Unit {0}
 pub record Fits (s : Statement) : Type 0 where
   pub fact : FitsStatement s
 
+ok : (s : Statement) → FitsStatement s → Fits s
+ok s f = record { fact = f }
+
 fits_cond : (b : Bool) (s t : Statement) → Fits s → Fits t → Fits (cond b s t)
 fits_cond true s t f g = f
 fits_cond false s t f g = g

@@ -58,6 +58,10 @@ finish_law all head =
     ap (λ (a : Option ℕ). record (interface_as_set all head.0 head.1) { area = option_or (setting area_set (about all head.0)) a })
     (ap (area_for (network_lines all)) (whole_parts (interface_address all head.0)) ∙ area_law all (interface_address all head.0))
 
+-- router ids
+ids : List Said → List ℕ
+ids all = filter_map router_id_said (about_router all)
+
 last_some : (y : ℕ) (ys : List ℕ) (o : Option ℕ) → option_or (last_of (y ∷ ys)) o ≡ last_of (y ∷ ys)
 last_some y [] o = refl
 last_some y (z ∷ zs) o = last_some z zs o

@@ -1,7 +1,13 @@
 -- Writes one after another.
-use Rattle.std.proofs.Common.{ℕ, ◌+◌, sym, ◌∙◌, ap, List, ◌++◌, take, drop, append_assoc, Option, Some, None}
+use Rattle.std.proofs.Common.{ℕ, ◌+◌, sym, ◌∙◌, ap, List, [], ◌++◌, take, drop, append_assoc, append-nil, Option, Some, None}
 use Rattle.std.proofs.Math.Seq.{take-add}
-use Rattle.std.specs.Io.KnownBytes.{Appends}
+use Rattle.std.specs.Io.KnownBytes.{Appends, Keeps}
+
+-- bytes that stay grow by nothing
+pub keeps_appends : (a b : Option (List ℕ)) → Keeps a b → Appends a b []
+keeps_appends None b same = tt
+keeps_appends (Some x) None same = absurd same
+keeps_appends (Some x) (Some y) same = same ∙ sym (append-nil x)
 
 -- the first n bytes of a piece and the next k are the first n + k
 pub appends_more : (a b c : Option (List ℕ)) (piece : List ℕ) (n k : ℕ) → Appends a b (take n piece) →

@@ -1,5 +1,5 @@
 -- Searches that decide caps, one after another, are searches.
-use Rattle.std.specs.Prelude.{◌≡◌, ℕ, List, [], ◌∷◌, ◌++◌}
+use Rattle.std.specs.Prelude.{◌≡◌, ℕ, List, [], ◌∷◌, ◌++◌, Result, Ok, Err, OnOk}
 use Rattle.std.proofs.Common.{refl, subst}
 use Rattle.design_problem.specs.declared.tree.Entry.{Entry}
 use Rattle.design_problem.specs.Problems.{DesignProblem}
@@ -44,3 +44,8 @@ cap_searched IsItself state would left after p top nodes cap pool found old new 
       calls_there (IsLeastPoint (LeadsEach p)) IsPointOf (IsPick IsItself state would left) (AreAllTold IsItself state after) costs asked.tree old new
           (λ b point least. least.inside) asked.calls,
     )
+
+-- what holds anyhow holds where a call ended well
+pub where_ok : {T E P : Type 0} (result : Result T E) → P → OnOk result P
+where_ok (Ok made) holds = holds
+where_ok (Err e) holds = tt

@@ -226,6 +226,19 @@ pub record AreBalanced (n : ℕ) (ts : List Term) (balance : Balance) (ps : List
   pub told : (v : ℕ) → coefficient_of (ts ++ term_of balance.var balance.sum) v ≡ balance_of ps v
   pub small : nat_abs balance.sum ≤ length ps
 
+pub none_balanced : (n : ℕ) → AreBalanced n [] (record { var = 0; sum = pos 0 }) []
+none_balanced n = record {
+  terms = record {
+    known = All-nil (λ (t : Term). t.var < 0);
+    rising = λ i j d i_in j_in. absurd (omega arith);
+    some = All-nil (λ (t : Term). t.coefficient ≢ pos 0);
+  };
+  within = omega arith;
+  known = λ some. absurd (some refl);
+  told = λ v. refl;
+  small = omega arith;
+}
+
 one_more : (s : ℤ) (count : ℕ) (by_rival : Bool) → nat_abs s ≤ count → nat_abs (s +ℤ one_payment by_rival) ≤ count + 1
 one_more (pos m) count true small = omega (arith, ints)
 one_more (pos m) count false small = omega (arith, ints)

@@ -129,6 +129,11 @@ kernel_high true k is kernel high place d place_in =
     (high place [] line_in))
 kernel_high false k is kernel high place d place_in = absurd (clash is)
 
+-- how many lines there are
+pub kernel_many : (b : Bool) (k : Kernel) (line : ℕ) → b ≡ true → IsKernel k → line < length (table_in b k).lines.items → line < length k.constants.items
+kernel_many true k line is kernel line_in = omega (arith, stated_many k kernel, line_in)
+kernel_many false k line is kernel line_in = absurd (clash is)
+
 -- an active table has a basis, in either representation
 active_basis : (b : Bool) (k : Kernel) → IsTableau (table_in b k) → IsBasis k.table.costs k.table.rows.items k.table.basis.items
 active_basis true k w = whole_basis k.table.top k.table.costs k.table.rows.items k.table.basis.items (stated k).lines.items w

@@ -44,6 +44,12 @@ row_next accepted top forms place (Halve var value wide) next = absurd next
 row_next accepted top forms place (Refute parts) next = record { sound = next.0; earnest = tt; short = next.1; closed = refl }
 row_next accepted top forms place Undone next = absurd next
 
+pub all_take : (P : Form → Type 0) (n : ℕ) (forms : List Form) → All P forms → All P (take n forms)
+all_take P zero forms all k d k_in = absurd (omega arith)
+all_take P (suc n) [] all k d k_in = absurd (omega arith)
+all_take P (suc n) (f ∷ forms) all zero d k_in = all 0 f (omega arith)
+all_take P (suc n) (f ∷ forms) all (suc k) d k_in = all_take P n forms (λ i e i_in. all (suc i) e (omega (arith, i_in))) k d (omega arith)
+
 -- a step that is too wide with the forms that a tableau holds is too wide with all forms
 pub printed_held : (top n : ℕ) (box : CostBox) (forms : List Form) (table : HeldTableau) (wide : WideAt) →
     IsHeld top n forms table → table.tableau.costs ≡ box →

@@ -1,4 +1,5 @@
 pub mod theory
+pub mod StandingRows
 pub mod IntegralTurns
 pub mod Bases
 pub mod StartingTables

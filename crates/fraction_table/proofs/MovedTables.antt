@@ -103,6 +103,17 @@ abbrev pub raised_rows : Option ℕ → ℤ → List (List ℤ) → List (List �
 raised_rows None fall lows = lows
 raised_rows (Some j) fall lows = map (raised j fall) lows
 
+-- a form's number in the column
+abbrev pub slope : ℕ → List ℕ → List (List ℤ) → Option ℕ → Form → ℤ
+slope D low lows None f = pos 0
+slope D low lows (Some j) f = number_of_form D low lows f (suc j)
+
+-- The numbers after a bound moved: at place 0 each rises by that in the column, times the fall.
+pub record AreMoved (D : ℕ) (low next : List ℕ) (lows news : List (List ℤ)) (bs : List Form) (column : Option ℕ) (fall : ℤ) : Type 0 where
+  pub numbered : IsNumbered D (length low) next (fallen_basis column fall bs) news
+  pub constants : (f : Form) → number_of_form D next news f 0 ≡ (number_of_form D low lows f 0 +ℤ (slope D low lows column f *ℤ fall))
+  pub others : (f : Form) (k : ℕ) → number_of_form D next news f (suc k) ≡ number_of_form D low lows f (suc k)
+
 -- the column, if there is one, is one of n
 abbrev pub IsInside : Option ℕ → ℕ → Type 0
 IsInside None n = Unit {0}

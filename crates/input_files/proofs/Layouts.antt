@@ -1,17 +1,20 @@
 -- The layout that was made is that of what the files say.
-use Rattle.std.proofs.Common.{◌≡◌, refl, sym, ◌∙◌, subst, List, [], ◌++◌, Ok, Err}
+use Rattle.std.proofs.Common.{◌≡◌, refl, sym, ◌∙◌, ap, subst, List, [], ◌++◌, Ok, Err}
 use Rattle.cost_base.specs.Histories.{Taken}
+use Rattle.cost_base.specs.Lists.{first_of}
 use Rattle.interface_model.specs.Records.{Router}
 use Rattle.lsdb_build.specs.Graphs.{Database}
 use Rattle.request_reader.specs.Asked.{Asked}
+use Rattle.wanted_paths.specs.LineFaults.{line_faults}
 use Rattle.input_files.specs.declared.layout.Layout.{Layout}
 use Rattle.input_files.specs.declared.stop.Stop.{Stop}
 use Rattle.input_files.specs.Inputs.{InputFiles}
-use Rattle.input_files.specs.Readings.{Reading, Ready, ◌>>=◌, Gave}
-use Rattle.input_files.specs.Outcomes.{ConfigFile, request_read, configs_read, routers_of, topology_read}
+use Rattle.input_files.specs.Readings.{Reading, Ready, ◌>>=◌, Says, EndsAs, Gave}
+use Rattle.input_files.specs.Outcomes.{ConfigFile, request_read, configs_read, routers_of, topology_read, resolution_refused}
 use Rattle.input_files.specs.Layouts.{LaidOut, IsLayoutOf, area_read, layout_read, lines_read}
 use Rattle.input_files.specs.Stops.{StopsAs, IsReadAndMade}
 use Rattle.input_files.proofs.Problems.{IsAsked, AreRouters}
+use Rattle.input_files.proofs.Readings.{says_unless}
 use Rattle.input_files.proofs.Stops.{stops_first, read_then, gave_then, gave_made, gave_stop}
 
 -- The rest of a reading behind each step.
@@ -82,6 +85,10 @@ area_is First Later Both names layout request_file routers d more parts a b made
     })))
 
 -- Lines of which each can be resolved.
+
+pub lines_ready : (names : InputFiles) (asked : Asked) (d : Database) → line_faults d asked.items ≡ [] → EndsAs (lines_read names asked d) [] (Says tt)
+lines_ready names asked d none =
+    says_unless (resolution_refused names d) tt (first_of (line_faults d asked.items)) (ap first_of none)
 
 -- what stops the lines stops all
 pub lines_stop : (Given : List Taken → Type 0) (names : InputFiles) (layout : Layout) (stop : Stop) →

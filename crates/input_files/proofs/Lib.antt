@@ -7,5 +7,6 @@ pub mod ReadyInputs
 pub mod Present
 pub mod Ends
 pub mod Networks
+pub mod LaterFiles
 pub mod PresentNetworks
 pub mod Layouts

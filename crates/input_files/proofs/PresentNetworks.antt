@@ -7,7 +7,7 @@ use Rattle.request_reader.specs.Asked.{IsAsked}
 use Rattle.wanted_paths.specs.declared.fault.ResolutionFault.{ResolutionFault}
 use Rattle.wanted_paths.specs.LineFaults.{line_faults}
 use Rattle.path_requests.specs.Meaning.{present_cost, problem_of}
-use Rattle.path_requests.specs.Resolving.{cost_faults, present_asked, present_fault, present_problem_of}
+use Rattle.path_requests.specs.Resolving.{ends_faults, variable_faults, cost_faults, present_asked, present_fault, present_problem_of}
 use Rattle.present_costs.specs.PresentCosts.{fault_beside_present}
 use Rattle.present_costs.specs.AtCosts.{graph_at_costs}
 use Rattle.present_costs.proofs.PositiveCosts.{present_above}
@@ -49,3 +49,11 @@ graph_at_present names d is = ap (λ (p : DesignProblem). p.graph) (at_present n
 pub beside_present : (names : InputFiles) (d : Input) → problem_read BesidePresent names d.asked d.database ≡ Ready d.problem →
     (fault_beside_present d.asked d.database ≡ None) × (d.problem ≡ problem_of d.asked d.database)
 beside_present names d is = resolved names d.database (problem_of d.asked d.database) d.problem (fault_beside_present d.asked d.database) is
+
+-- each present cost is above 0
+pub above_beside_present : (names : InputFiles) (d : Input) → IsAsked d.asked → IsAreaDatabase d.database →
+    problem_read BesidePresent names d.asked d.database ≡ Ready d.problem → All (λ cost. 0 < cost) (map (present_cost d.asked) d.database.links)
+above_beside_present names d asked base is =
+    let before = line_faults d.database d.asked.items ++ ends_faults d.asked d.database d.asked.items ++ variable_faults d.asked d.database in
+    let none = none_first (before ++ cost_faults (present_asked d.asked) d.database 0 d.database.links) (beside_present names d is).0 in
+    present_above d.asked d.database asked base (append-none before (cost_faults (present_asked d.asked) d.database 0 d.database.links) none).1

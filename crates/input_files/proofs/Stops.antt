@@ -1,6 +1,7 @@
 -- What was read one after another, and what stopped it.
-use Rattle.std.proofs.Common.{◌≡◌, ℕ, sym, ap, subst, List, [], ◌++◌, append-nil, Option, Some, Result, Ok, Err}
+use Rattle.std.proofs.Common.{◌≡◌, ℕ, refl, sym, ap, subst, List, [], ◌∷◌, ◌++◌, append-nil, Option, Some, Result, Ok, Err}
 use Rattle.std.specs.Borrow.{Bor}
+use Rattle.cost_base.specs.declared.ShelfStop.{ShelfStop}
 use Rattle.cost_base.specs.declared.ShelfStop.TheVariants as shelf
 use Rattle.cost_base.specs.declared.refusal.Refusal.{Refusal}
 use Rattle.cost_base.specs.declared.refusal.Refusal.TheVariants.{Refused as FaultAt}
@@ -8,7 +9,8 @@ use Rattle.cost_base.specs.Histories.{Taken}
 use Rattle.input_files.specs.declared.stop.Stop.{Stop}
 use Rattle.input_files.specs.declared.stop.Stop.TheVariants as stops
 use Rattle.input_files.specs.Readings.{InputRefusal, Reading, Refused, ◌>>=◌, unless_refused, place_refused, Says, Faulty, Failed, EndsAs, Begins, Gave}
-use Rattle.input_files.specs.Stops.{StopsAs, IsReadAndMade, IsReadAs, IsRefusal, refusal_in, refusal_stop}
+use Rattle.input_files.specs.Outcomes.{file_read}
+use Rattle.input_files.specs.Stops.{StopsAs, IsReadAndMade, IsReadAs, IsRefusal, file_stop, refusal_in, refusal_stop}
 use Rattle.input_files.proofs.Readings.{begins_first, begins_then, ends_begin, ends_then, ends_faulty, ends_failed}
 
 -- what stops the one reading stops both
@@ -65,6 +67,14 @@ gave_made Given m f Fits Suits made result a h =
 pub gave_stop : {A B : Type 0} (Given : List Taken → Type 0) (m : Reading A) (f : A → Reading B) (stop : Stop) →
     Gave Given (λ came. StopsAs m came stop) → Gave Given (λ came. StopsAs (m >>= f) came stop)
 gave_stop Given m f stop a = record { came = a.came; given = a.given; so = stops_first m f a.came stop a.so }
+
+-- a file that wasn't read
+pub file_stops : (most : ℕ) (why : ShelfStop) (file : Bor (List ℕ)) →
+    StopsAs (file_read most file.now) (record { name = file.now; most = most; came = Err why } ∷ [])
+    (file_stop why file)
+file_stops most shelf.Failed file = (refl, refl, (refl, refl))
+file_stops most shelf.TooLong file = (refl, refl, (refl, refl))
+file_stops most shelf.OutOfMemory file = (refl, refl, refl)
 
 -- what was read, or what stopped it, begins the reading
 pub read_begins : {A T : Type 0} (m : Reading A) (came : List Taken) (Fits : T → A → Type 0) (result : Result T Stop) →

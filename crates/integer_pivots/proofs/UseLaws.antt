@@ -4,7 +4,7 @@ use Rattle.std.proofs.Common.{Vec, ◌≡◌, ℕ, zero, suc, ◌+◌, ◌<◌, 
 use Rattle.std.specs.Prelude.{ℤ, pos, negsuc, ◌+ℤ◌, nat_abs, slice_index_or, All, ◌≢◌, ◌==◌, false}
 use Rattle.std.proofs.lemmas.Bool.{ne_eqb, eq-eqb}
 use Rattle.std.proofs.lemmas.Int.{ints}
-use Rattle.std.proofs.lemmas.List.{append-nil, append_assoc, length-map}
+use Rattle.std.proofs.lemmas.List.{append-nil, append_assoc, get_or-map, length-map}
 use Rattle.std.proofs.lemmas.List.Elements.{All-append, All-cons, All-nil}
 use Rattle.cost_base.specs.Lists.{numbers_from}
 use Rattle.cost_base.proofs.ListLemmas.{length-numbers_from, get_or-map-numbers_from}
@@ -155,3 +155,11 @@ row_told first (f ∷ rows) v (suc row) =
     let next : first + suc row ≡ suc first + row = omega arith in
     let rest = row_told (suc first) rows v row in
     (here.0 ∙ ap (coefficient_in us) next ∙ rest.0, here.1 ∙ ap (size_in us) next ∙ rest.1)
+
+-- a list that is read holds the variable's uses
+pub list_read : (lists : List (Vec Use Global)) (rows : List Form) (v : ℕ) (list : Vec Use Global) →
+    uses_in lists ≡ uses_by rows (length lists) → v < length lists → list ≡ get_or lists v list →
+    list.items ≡ uses_from 0 rows v
+list_read lists rows v list are v_in is =
+    ap (λ (l : Vec Use Global). l.items) is ∙ sym (get_or-map (λ (l : Vec Use Global). l.items) lists v list [] v_in)
+    ∙ list_at lists rows (length lists) v are v_in

@@ -142,6 +142,15 @@ all_added us index number start row sum past s =
     let none : coefficient_in (drop index us) row ≡ pos 0 = at_drop_all (λ (vs : List Use). coefficient_in vs row) us index past in
     ring (sum ∷ number ∷ []) (var 0) (var 0 ⊕ (var 1 ⊗ num (pos 0))) refl ∙ ap (λ (z : ℤ). sum +ℤ (number *ℤ z)) (sym none) ∙ s.so_far
 
+-- a row's sum goes on by its coefficient times the variable's number
+pub row_added : (rows : List Form) (us : List Use) (v row : ℕ) (number old new : ℤ) → us ≡ uses_from 0 rows v →
+    new ≡ (old +ℤ (number *ℤ coefficient_in us row)) → new ≡ (old +ℤ (number *ℤ number_at (get_or rows row no_form).coefficients v))
+row_added rows us v row number old new us_are new_is =
+    let told : coefficient_in us row ≡ number_at (get_or rows row no_form).coefficients v =
+    ap (λ (vs : List Use). coefficient_in vs row) us_are ∙ ap (coefficient_in (uses_from 0 rows v)) (sym (zero-add row)) ∙ (row_told 0 rows v row).0 in
+    new_is ∙ ap (λ (z : ℤ). old +ℤ (number *ℤ z)) told
+
+-- where each row's sum has room for its coefficient's product, each use has
 pub uses_room : (rows : List Form) (us : List Use) (sums : List ℤ) (v first : ℕ) → us ≡ uses_from 0 rows v →
     ((row : ℕ) → row < length rows →
     nat_abs (number_at sums (first + row)) + nat_abs (number_at (get_or rows row no_form).coefficients v) * 2 ^ 45 ≤ 2 ^ 62) →

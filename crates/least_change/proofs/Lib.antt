@@ -5,6 +5,7 @@ pub mod InBoxes
 pub mod KeptBoxes
 pub mod KeptTrees
 pub mod KnownTrees
+pub mod ListWalks
 pub mod LookLaws
 pub mod LookedTrees
 pub mod MarkLaws

@@ -1,13 +1,14 @@
 -- Links found by the ends of linked interfaces.
-use Rattle.std.proofs.Common.{◌≡◌, ℕ, Bool, true, false, cond, nat_eq, List, [], ◌∷◌, ◌++◌, Option, None, Some, is_some, refl, sym, ap, subst, ◌∙◌}
+use Rattle.std.proofs.Common.{◌≡◌, ◌||◌, ℕ, Bool, true, false, cond, nat_eq, List, [], ◌∷◌, ◌++◌, Option, None, Some, is_some, refl, sym, ap, subst, ◌∙◌}
 use Rattle.std.specs.List.{list_any}
 use Rattle.std.specs.Option.{option_or}
 use Rattle.std.proofs.lemmas.Bool.{and_parts, eqb-true, false≢true}
+use Rattle.std.proofs.lemmas.List.Folds.{list_any-append}
 use Rattle.indexmap.specs.IndexMap.{IndexMap, get}
 use Rattle.lsa_writer.specs.declared.ends.LinkEnd.{LinkEnd}
 use Rattle.live_area.specs.declared.links.LiveLink.{LiveLink}
 use Rattle.live_area.specs.declared.metrics.LinkName.{LinkName}
-use Rattle.live_area.specs.LiveLinks.{is_end_named, is_link_named_so, name_of_link, same_link}
+use Rattle.live_area.specs.LiveLinks.{is_end_named, is_link_named_so, metric_at, name_of_end, name_of_link, same_link}
 use Rattle.live_area.specs.Indexes.{HasLinkMetrics, metric_named, metric_noted}
 
 -- the metric of a name, with one link more behind
@@ -80,3 +81,37 @@ nothing_put old ends links link is has =
         unknown (get same_link old name)
         (sym (ap (λ (n : LinkName). metric_noted (get same_link old n) link.metric) (same_is (name_of_link link) name same)) ∙ is)
     by_test name false other = refl
+
+-- the look-up with an end more
+pub end_put : {S : Type 0} (old new : IndexMap LinkName (Option ℕ) S) (ends : List LinkEnd) (end : LinkEnd) → HasLinkMetrics old ends [] →
+    ((name : LinkName) → get same_link new name ≡ cond (same_link (name_of_end end) name) (Some None) (get same_link old name)) →
+    HasLinkMetrics new (ends ++ end ∷ []) []
+end_put old new ends end has updates name =
+    updates name
+    ∙ ap (λ (found : Option (Option ℕ)). cond (same_link (name_of_end end) name) (Some None) found) (has name)
+    ∙ by_tests (same_link (name_of_end end) name) (list_any (is_end_named name) ends)
+    ∙ sym (ap (λ (b : Bool). cond b (Some None) None) (list_any-append (is_end_named name) ends (end ∷ [])))
+  where
+    nothing : Option (Option ℕ)
+    nothing = Some None
+
+    by_tests : (b e : Bool) → cond b nothing (cond e nothing None) ≡ cond (e || (b || false)) nothing None
+    by_tests true true = refl
+    by_tests true false = refl
+    by_tests false true = refl
+    by_tests false false = refl
+
+-- the first link of an end's name is the end's link
+pub metric_is : (end : LinkEnd) (links : List LiveLink) → metric_named (name_of_end end) links ≡ metric_at end links
+metric_is end [] = refl
+metric_is end (link ∷ links) = ap (λ (found : Option ℕ). cond (is_link_named_so (name_of_end end) link) (Some link.metric) found) (metric_is end links)
+
+-- what is found is there exactly where an end has the name
+pub found_end : {S : Type 0} (by_name : IndexMap LinkName (Option ℕ) S) (ends : List LinkEnd) (links : List LiveLink) (link : LiveLink) →
+    HasLinkMetrics by_name ends links → is_some (get same_link by_name (name_of_link link)) ≡ list_any (is_end_named (name_of_link link)) ends
+found_end by_name ends links link has =
+    ap (λ (found : Option (Option ℕ)). is_some found) (has (name_of_link link)) ∙ by_test (list_any (is_end_named (name_of_link link)) ends)
+  where
+    by_test : (b : Bool) → is_some (cond b (Some (metric_named (name_of_link link) links)) None) ≡ b
+    by_test true = refl
+    by_test false = refl

@@ -123,6 +123,11 @@ inner_there all name place at j stands e =
     by_member None there f = absurd (subst IsThere f tt)
     by_member (Some m) there f = by_value m m.value there f
 
+-- where none is found, none is there
+pub no_inner : (o : Option (ℕ × List Member)) → None ≡ option_map (λ (found : ℕ × List Member). found.0) o → o ≡ None
+no_inner None e = refl
+no_inner (Some found) e = absurd (subst IsThere (sym e) tt)
+
 -- ---- hexadecimal digits
 
 -- one more digit, and all are told by what is left

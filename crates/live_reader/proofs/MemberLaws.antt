@@ -57,6 +57,9 @@ none_mapped f (Some x) e = absurd (subst IsThere (sym e) tt)
 pub no_members : (place : ℕ) (j : Json) → None ≡ option_map (λ ms. place + 1) (object_members place j) → object_members place j ≡ None
 no_members place j e = none_mapped _ (object_members place j) e
 
+pub no_items : (place : ℕ) (j : Json) → None ≡ option_map (λ js. place + 1) (items_of place j) → items_of place j ≡ None
+no_items place j e = none_mapped _ (items_of place j) e
+
 -- a mapped something is not nothing
 pub never_none : (n : ℕ) → None ≡ Some n → ⊥
 never_none n e = subst IsThere (sym e) tt

@@ -4,8 +4,8 @@ use Rattle.std.specs.Prelude.{MatchOption, nat_le}
 use Rattle.std.specs.Option.{option_map}
 use Rattle.std.specs.List.{list_all}
 use Rattle.std.specs.Cmp.Derive.{both_true}
-use Rattle.std.proofs.lemmas.Bool.{and_parts, or_parts, leb-true, ltb-false}
-use Rattle.std.proofs.lemmas.List.{length-drop}
+use Rattle.std.proofs.lemmas.Bool.{and_parts, or_parts, leb-true, ltb-false, eqb-true, false≢true}
+use Rattle.std.proofs.lemmas.List.{append-nil, length-drop}
 use Rattle.std.proofs.lemmas.List.Elements.{All-nil, All-cons}
 use Rattle.cost_base.specs.Lists.{numbers_from}
 use Rattle.cost_base.proofs.ListLemmas.{length-map-numbers_from}
@@ -51,6 +51,21 @@ breaks_off front count i bytes total more starts so_far =
     ap (with_front front) (sym (links_step false (count - (i + 1)) bytes starts))
     ∙ ap (λ (n : ℕ). with_front front (links_of n bytes)) (sym next)
     ∙ so_far
+
+-- no bytes are left, or some are
+pub all_read : (front : List LsaLink) (count i : ℕ) (bytes : List ℕ) (total : Option (List LsaLink)) → count ≤ i → nat_eq (length bytes) 0 ≡ true
+    → with_front front (links_of (count - i) bytes) ≡ total → Some front ≡ total
+all_read front count i [] total done none so_far =
+    let zero_left : count - i ≡ 0 = omega arith in
+    ap Some (sym (append-nil front)) ∙ ap (λ (n : ℕ). with_front front (links_of n [])) (sym zero_left) ∙ so_far
+all_read front count i (byte ∷ bytes) total done none so_far = absurd (omega (arith, eqb-true (length (byte ∷ bytes)) 0 none))
+
+pub some_left : (front : List LsaLink) (count i : ℕ) (bytes : List ℕ) (total : Option (List LsaLink)) → count ≤ i → nat_eq (length bytes) 0 ≡ false
+    → with_front front (links_of (count - i) bytes) ≡ total → None ≡ total
+some_left front count i [] total done some so_far = absurd (false≢true (sym some))
+some_left front count i (byte ∷ bytes) total done some so_far =
+    let zero_left : count - i ≡ 0 = omega arith in
+    ap (λ (n : ℕ). with_front front (links_of n (byte ∷ bytes))) (sym zero_left) ∙ so_far
 
 -- What bodies keep.
 

@@ -2,6 +2,7 @@
 use Rattle.std.proofs.Common.{◌≡◌, ℕ, ◌+◌, ◌-◌, ◌*◌, ◌<◌, ◌≤◌, List, [], ◌∷◌, ◌++◌, All, length, take, drop, Option, None, Some, is_some, true, refl, sym, ap, subst, ◌∙◌, append_assoc, zero-add, arith}
 use Rattle.std.specs.Prelude.{sum_by}
 use Rattle.std.specs.List.{concat, AllByRecursion}
+use Rattle.std.specs.Option.{option_or}
 use Rattle.std.proofs.lemmas.List.{append-nil, length-append, take-append-drop, length-take, map-append}
 use Rattle.std.proofs.lemmas.List.Elements.{All-append}
 use Rattle.std.proofs.lemmas.List.Folds.{concat-append}
@@ -13,7 +14,7 @@ use Rattle.lsa_bytes.specs.declared.instances.Instance.{Instance}
 use Rattle.lsa_bytes.specs.Grammar.{length_of, said_at}
 use Rattle.lsa_bytes.specs.Databases.{has_link_types, size_of_lsa}
 use Rattle.lsa_bytes.specs.Instances.{lsas_of}
-use Rattle.lsa_bytes.specs.Faults.{TellsLsaFault, body_fault, form_fault, placed}
+use Rattle.lsa_bytes.specs.Faults.{TellsLsaFault, length_fault, body_fault, form_fault, placed}
 use Rattle.lsa_bytes.specs.Files.{IsLsa, instances_in}
 use Rattle.lsa_bytes.specs.Reading.{AreReadFrom, AreSmall, EndAt}
 use Rattle.lsa_bytes.proofs.BodyLaws.{said_fits}
@@ -151,6 +152,21 @@ refused bytes rest instances place (Refused fault offset) so_far some place_is t
         subst (λ (pair : Option (LsaFault × ℕ)). AreReadFrom bytes instances pair) same
         (broken_off bytes rest instances place other so_far some place_is is)
 refused bytes rest instances place OutOfMemory so_far some place_is told = tt
+
+length_told : (rest : List ℕ) (place : ℕ) (stop : Refusal LsaFault ℕ) →
+    TellsLsaFault (placed place (length_fault rest)) stop → TellsLsaFault (placed place (form_fault rest)) stop
+length_told rest place (Refused fault offset) told = by_found (length_fault rest) told
+  where
+    by_found : (found : Option LsaFault) → placed place found ≡ Some (fault, offset) →
+        placed place (option_or found (body_fault (take (length_of rest) rest))) ≡ Some (fault, offset)
+    by_found None none = absurd (cc)
+    by_found (Some other) same = same
+length_told rest place OutOfMemory told = tt
+
+pub length_refused : (bytes rest : List ℕ) (instances : List Instance) (place : ℕ) (stop : Refusal LsaFault ℕ) → IsUnderway bytes rest instances →
+    0 < length rest → place ≡ length bytes - length rest → TellsLsaFault (placed place (length_fault rest)) stop → EndAt bytes instances stop
+length_refused bytes rest instances place stop so_far some place_is told =
+    refused bytes rest instances place stop so_far some place_is (length_told rest place stop told)
 
 pub body_refused : (bytes rest lsa behind : List ℕ) (instances : List Instance) (place : ℕ) (stop : Refusal LsaFault ℕ) →
     IsUnderway bytes rest instances → place ≡ length bytes - length rest → IsFirst rest lsa behind →

@@ -1,16 +1,32 @@
 -- The text of `spread`, part by part.
-use Rattle.std.proofs.Common.{◌≡◌, ℕ, ◌+◌, sym, ◌∙◌, ap, List, [], ◌∷◌, ◌++◌}
+use Rattle.std.proofs.Common.{◌≡◌, ℕ, ◌+◌, ◌<◌, sym, ◌∙◌, ap, List, [], ◌∷◌, ◌++◌, map, length, drop, get_or, append_assoc}
 use Rattle.std.specs.Prelude.{codes, Option}
+use Rattle.std.proofs.lemmas.List.{at_drop_more}
 use Rattle.design_problem.specs.declared.answer.CapTree.{CapTree}
 use Rattle.design_problem.specs.declared.answer.Costs.{Costs}
 use Rattle.design_problem.specs.Text.{costs_lines, tree_lines}
 use Rattle.text_lines.specs.Lines.{with_ends}
 use Rattle.text_lines.proofs.LineLaws.{with_ends-append}
 use Rattle.spread_sets.specs.declared.spread.SetRow.{SetRow}
+use Rattle.spread_sets.specs.Answers.{set_row_line}
 use Rattle.path_commands.specs.Spreads.{front_lines, set_rows_lines, spread_lines}
 use Rattle.printed_parts.proofs.TextParts.{joined}
 
 -- The lines of the rows.
+
+-- with one more
+pub rows_more : (rows : List SetRow) (i : ℕ) (d row : SetRow) (old new whole : List ℕ) → i < length rows →
+    row ≡ get_or rows i d → new ≡ old ++ with_ends (set_row_line row ∷ []) →
+    old ++ with_ends (map set_row_line (drop i rows)) ≡ whole →
+    new ++ with_ends (map set_row_line (drop (i + 1) rows)) ≡ whole
+rows_more rows i d row old new whole within is pushed so_far =
+    let rest = map set_row_line (drop (i + 1) rows) in
+    let first = set_row_line (get_or rows i d) ∷ [] in
+    ap (λ (bytes : List ℕ). bytes ++ with_ends rest) (pushed ∙ ap (λ (r : SetRow). old ++ with_ends (set_row_line r ∷ [])) is)
+    ∙ append_assoc old (with_ends first) (with_ends rest)
+    ∙ ap (λ (bytes : List ℕ). old ++ bytes) (sym (with_ends-append first rest)
+    ∙ sym (at_drop_more (λ (rs : List SetRow). with_ends (map set_row_line rs)) rows i d within))
+    ∙ so_far
 
 -- The whole text.
 

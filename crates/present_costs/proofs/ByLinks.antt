@@ -11,7 +11,7 @@ use Rattle.area_graph.specs.declared.Price.TheVariants.{Fixed, Var, Zero}
 use Rattle.area_graph.specs.declared.Edge.{Edge}
 use Rattle.area_graph.specs.Area.{Area}
 use Rattle.area_graph.specs.Paths.{Ends, IsPathOf}
-use Rattle.area_graph.specs.Costs.{cost, at_costs, IsPriced, FitsPoint}
+use Rattle.area_graph.specs.Costs.{cost, at_costs, IsOnlyCheapest, IsPriced, FitsPoint}
 use Rattle.lsdb_build.specs.declared.Linked.{Linked}
 use Rattle.lsdb_build.specs.Graphs.{Database, graph_at, far_vertex, link_edges, subnet_edges, router_of}
 use Rattle.design_problem.specs.Problems.{IsProblem, request_ends}
@@ -21,7 +21,7 @@ use Rattle.path_requests.specs.Resolving.{present_problem_of}
 use Rattle.path_requests.proofs.PresentLaws.{present_prices_are}
 use Rattle.path_requests.proofs.ProblemLaws.{subnets_priced}
 use Rattle.present_costs.specs.AtCosts.{fixed_at, graph_with, graph_at_costs, graph_by_links}
-use Rattle.present_costs.proofs.CheapestWith.{edge_with, path_with}
+use Rattle.present_costs.proofs.CheapestWith.{edge_with, path_with, cost_with, only_cheapest_with}
 
 links_with : (w : List ℕ) (n : ℕ) (links : List Linked) (prices : List Price) →
     map (edge_with w) (link_edges n links prices) ≡ link_edges n links (map (fixed_at w) prices)
@@ -75,6 +75,19 @@ pub path_by_links : (d : Database) (w : List ℕ) (ends : Ends) (es : List ℕ) 
     IsPathOf (graph_by_links d) ends es ↔ IsPathOf (graph_at_costs d w) ends es
 path_by_links d w ends es same =
     subst (λ (g : Area). IsPathOf (graph_by_links d) ends es ↔ IsPathOf g ends es) (by_links d w same) (path_with w (graph_by_links d) ends es)
+
+-- they cost the same
+pub cost_by_links : (d : Database) (w es : List ℕ) → length w ≡ length d.links →
+    cost (graph_at_costs d w) (at_costs []) es ≡ cost (graph_by_links d) (at_costs w) es
+cost_by_links d w es same =
+    ap (λ (g : Area). cost g (at_costs []) es) (sym (by_links d w same)) ∙ cost_with w (graph_by_links d) es
+
+-- and the same ones are only cheapest
+pub only_cheapest_by_links : (d : Database) (w : List ℕ) (ends : Ends) (es : List ℕ) → length w ≡ length d.links →
+    IsOnlyCheapest (graph_at_costs d w) (at_costs []) ends es ↔ IsOnlyCheapest (graph_by_links d) (at_costs w) ends es
+only_cheapest_by_links d w ends es same =
+    subst (λ (g : Area). IsOnlyCheapest g (at_costs []) ends es ↔ IsOnlyCheapest (graph_by_links d) (at_costs w) ends es) (by_links d w same)
+    (only_cheapest_with w (graph_by_links d) ends es)
 
 -- The point of costs.
 

@@ -1,5 +1,5 @@
 -- A text put piece by piece.
-use Rattle.std.proofs.Common.{◌≡◌, ℕ, zero, suc, ◌+◌, ◌≤◌, List, [], ◌∷◌, ◌++◌, length, take, refl, sym, ap, ◌∙◌, subst, append_assoc, arith, Result, Ok, Err, inl, inr}
+use Rattle.std.proofs.Common.{◌≡◌, ℕ, zero, suc, ◌+◌, ◌≤◌, List, [], ◌∷◌, ◌++◌, length, take, refl, sym, ap, ◌∙◌, subst, append_assoc, append-nil, arith, Result, Ok, Err, inl, inr}
 use Rattle.std.proofs.Math.Seq.{take-append-add, take-append_seam}
 use Rattle.std.proofs.lemmas.List.{take-append-le}
 use Rattle.std.proofs.lemmas.Bool.{cases_lt, false≢true}
@@ -58,4 +58,13 @@ stop_at {T} {E} {F} Before Now Both f0 f1 f2 left total x (Err y) err piece rest
     record {
       bytes = (length u.so_far + p.0, subst Both same (more u.so_far (take put.0 piece) u.got put.1));
       cause = record { later = omega (arith, u.later, cause.later); failed = omega (arith, u.later, cause.failed) };
+    }
+
+-- every piece was put
+pub finish : {T E : Type 0} (handed : List ℕ → Type 0) (f0 f1 : ℕ) (total : List ℕ) (x : T) →
+    IsUnderway handed f0 f1 [] total → IsHanded {T = T} {E = E} handed f0 f1 total (Ok x)
+finish {T} {E} handed f0 f1 total x u =
+    record {
+      bytes = subst handed (sym (append-nil u.so_far) ∙ u.same) u.got;
+      cause = record { later = u.later; failed = tt };
     }

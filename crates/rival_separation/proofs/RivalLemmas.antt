@@ -257,6 +257,14 @@ leads_not g p ends limit room wanted place e total graph fits found path deviati
     let below = whole.cheap in
     omega arith
 
+-- distances to the end of a request serve another one with the same end, that excludes the same edges
+pub found_as : (g : Area) (p : Point) (ends others : Ends) (limit : ℕ) (room : Findings) → HasDistancesBelow g p ends limit room →
+    ends.end ≡ others.end → ends.excluded ≡ others.excluded → HasDistancesBelow g p others limit room
+found_as g p ends others limit room found same_end same_excluded =
+    let same : (record { start = others.start; end = ends.end; excluded = ends.excluded }) ≡ others =
+    λ i. record { start = others.start; end = same_end i; excluded = same_excluded i } in
+    subst (λ (x : Ends). HasDistancesBelow g p x limit room) same (record { room_for = found.room_for; marks = found.marks; least = found.least; tight = found.tight })
+
 -- numbers that add up
 record Sums (from to : Option ℕ) (price : ℕ) : Type 0 where
   x : ℕ

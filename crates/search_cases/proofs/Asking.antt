@@ -1,5 +1,5 @@
 -- What asking one more form of a list leaves.
-use Rattle.std.proofs.Common.{◌≡◌, ℕ, ◌+◌, ◌<◌, ◌≤◌, sym, ◌∙◌, ap, subst, inl, inr, List, [], ◌∷◌, ◌++◌, length, append_assoc, arith}
+use Rattle.std.proofs.Common.{◌≡◌, ℕ, ◌+◌, ◌<◌, ◌≤◌, refl, sym, ◌∙◌, ap, subst, inl, inr, List, [], ◌∷◌, ◌++◌, length, append_assoc, append-nil, arith}
 use Rattle.std.specs.Prelude.{ℤ, pos, ◌<ℤ◌, ◌≤ℤ◌, All, Contains, Bool, true, false}
 use Rattle.std.proofs.lemmas.Int.{ints}
 use Rattle.std.proofs.lemmas.Bool.{cases_lt}
@@ -11,6 +11,13 @@ use Rattle.form_search.specs.Sources.{Grows, HasNewRival, IsSourceAnswer}
 use Rattle.form_search.specs.declared.source.Asked.{Asked}
 use Rattle.form_search.specs.declared.source.Asked.TheVariants.{Nothing, Added}
 use Rattle.search_cases.specs.SmallForms.{AnswersFormsBelow, AreFormsAsked, IsFormAsked, IsTiny, IsTrueSmallForm, SmallForms, answer_so_far}
+
+-- before the first form
+pub asked_none : (list : SmallForms) (point : Point) (old : List Form) → AreFormsAsked list point 0 old old Nothing
+asked_none list point old = record {
+  grows = record { more = []; same = sym (append-nil old); more_true = All-nil (IsTrueSmallForm list) };
+  answer = (refl, λ k k_in. absurd (omega arith));
+}
 
 listed : (list : SmallForms) (k : ℕ) → All (IsTiny list.variables) list.forms → k < length list.forms → IsTrueSmallForm list (form_at list.forms k)
 listed list k tiny k_in = record {

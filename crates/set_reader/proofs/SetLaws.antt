@@ -2,9 +2,9 @@
 use Rattle.std.specs.Prelude.{IsPermutation, Contains}
 use Rattle.std.specs.List.{list_any, concat, AllZip}
 use Rattle.std.specs.Cmp.{nat_eq_equiv}
-use Rattle.std.proofs.Common.{inl, inr, ◌⊎◌, ◌≡◌, ◌≢◌, ℕ, zero, suc, ◌<◌, ◌≤◌, refl, sym, ◌∙◌, ap, subst, List, [], ◌∷◌, ◌++◌, length, get_or, set, length-set, All, Bool, true, false, not, ◌||◌, eqb, ltb, arith, append-nil}
+use Rattle.std.proofs.Common.{inl, inr, ◌⊎◌, ◌≡◌, ◌≢◌, ℕ, zero, suc, ◌<◌, ◌≤◌, refl, sym, ◌∙◌, ap, subst, List, [], ◌∷◌, ◌++◌, length, get_or, set, length-set, replicate, All, Bool, true, false, not, ◌||◌, eqb, ltb, arith, append-nil}
 use Rattle.std.proofs.lemmas.Bool.{or_parts, or_left, or_right, and_parts, eqb-true, ltb-true, ltb-false, not-false, false≢true}
-use Rattle.std.proofs.lemmas.List.{nil_from_length, append_assoc}
+use Rattle.std.proofs.lemmas.List.{nil_from_length, length-replicate, append_assoc}
 use Rattle.std.proofs.lemmas.List.Elements.{All-push, All-nil, All-head, All-tail, All-weaker, All-contains, Contains-push_cases, Contains-get_or}
 use Rattle.std.proofs.lemmas.List.Folds.{list_any-append, concat-append}
 use Rattle.std.proofs.lemmas.List.Quantifiers.{all_pairs_push}
@@ -12,10 +12,10 @@ use Rattle.std.proofs.lemmas.List.Sorted.{IsPermutation-refl, IsPermutation-sym,
 use Rattle.std.proofs.lemmas.Map.Views.{list_any-from_Contains}
 use Rattle.cost_base.proofs.ByteLemmas.{same_bytes-same}
 use Rattle.cost_base.proofs.ListLemmas.{none_passes}
-use Rattle.cost_base.specs.Marks.{AreMarked, is_one_of}
-use Rattle.cost_base.proofs.MarkLaws.{marked_none, marked_rest}
+use Rattle.cost_base.specs.Marks.{AreMarked, is_marked, is_one_of}
+use Rattle.cost_base.proofs.MarkLaws.{clear_marks, marked_none, marked_rest}
 use Rattle.area_graph.specs.Distances.{AreEdgeMarks}
-use Rattle.area_graph.proofs.ExcludedMarks.{marks_more}
+use Rattle.area_graph.proofs.ExcludedMarks.{marks_more, no_marks}
 use Rattle.design_problem.specs.declared.problem.Request.{Request}
 use Rattle.design_problem.specs.Problems.{DesignProblem, request_at, request_ends}
 use Rattle.set_reader.specs.SpreadSets.{IsSetOf}
@@ -159,6 +159,14 @@ members_marked earlier (m ∷ members) old new known are edges =
     subst (λ (es : List ℕ). AreEdgeMarks es new) (append_assoc earlier (m ∷ []) members)
     (members_marked (earlier ++ m ∷ []) members (set old m true) new later (marked_rest m members old new here are)
     (marks_more earlier m old edges here))
+
+pub sets_begin : (p : DesignProblem) (sets : List (List ℕ)) (taken : List Bool) → sets ≡ [] → length taken ≡ length p.paths →
+    ((k : ℕ) → is_marked taken k ≡ false) → KeepsSets p sets taken
+sets_begin p sets taken none counted clear = rw (none, clear_marks taken (length p.paths) counted clear) (record {
+  count = length-replicate (length p.paths) false;
+  marks = no_marks (length p.paths);
+  lawful = record { each = All-nil (IsSetOf p); apart = λ i j d before within. absurd (omega (arith, within)) };
+})
 
 pub sets_more : (p : DesignProblem) (sets : List (List ℕ)) (numbers set : List ℕ) (taken after : List Bool) →
     KeepsSets p sets taken → 2 ≤ length numbers → is_wrong_set p.requests (concat sets) numbers ≡ false →

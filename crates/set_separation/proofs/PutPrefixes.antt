@@ -1,5 +1,5 @@
 -- The prefix of a place, whose edges are found from the place back to the root.
-use Rattle.std.proofs.Common.{◌≡◌, ◌-◌, ℕ, ◌+◌, ◌<◌, ◌≤◌, sym, ◌∙◌, ap, List, [], ◌∷◌, ◌++◌, length, reverse, arith, append_assoc, length-append}
+use Rattle.std.proofs.Common.{◌≡◌, ◌-◌, ℕ, ◌+◌, ◌<◌, ◌≤◌, sym, ◌∙◌, ap, List, [], ◌∷◌, ◌++◌, length, reverse, arith, append-nil, append_assoc, length-append}
 use Rattle.std.specs.Prelude.{◌≢◌}
 use Rattle.std.proofs.lemmas.List.{length-reverse, reverse-append}
 use Rattle.area_graph.specs.Area.{Area, FitsGraph}
@@ -13,6 +13,9 @@ pub record IsPutBack (steps : List Step) (place earlier : ℕ) (path : List ℕ)
   pub known : earlier ≤ length steps
   pub whole : (wanted done : List (List ℕ)) (tree : IsGrown wanted done steps) →
       prefix_of_place tree.prefixes place ≡ prefix_of_place tree.prefixes earlier ++ reverse path
+
+pub nothing_put : (steps : List Step) (place : ℕ) → place ≤ length steps → IsPutBack steps place place []
+nothing_put steps place known = record { known = known; whole = λ wanted done tree. sym (append-nil (prefix_of_place tree.prefixes place)) }
 
 -- the prefix of a place behind a step
 stepped : (wanted done : List (List ℕ)) (steps : List Step) (tree : IsGrown wanted done steps) (earlier : ℕ) →

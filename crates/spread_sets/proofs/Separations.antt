@@ -27,6 +27,9 @@ use Rattle.spread_sets.proofs.PrintedSets.{route_is}
 pub first_known : (p : DesignProblem) (set : List ℕ) → IsMemberSet p set → name_of_set set < length p.requests
 first_known p set is = member_known p set (name_of_set set) is (first_listed set is.some)
 
+pub first_path : (p : DesignProblem) (set : List ℕ) → IsProblem p → IsMemberSet p set → IsPathOf p.graph (ends_in p set) (edges_of p (name_of_set set))
+first_path p set kept is = member_path p set (name_of_set set) kept is (first_listed set is.some)
+
 pub tied_tree : (p : DesignProblem) (point : Point) (s : MemberSet) → IsProblem p → HasTree p s →
     AreTied p point s.members →
     IsTiedTree p.graph point (ends_in p s.members) (cost_of_set p point s.members) (paths_of p s.members) s.tree

@@ -1,5 +1,5 @@
 -- Lines of texts that are put together, and of texts that are read line by line.
-use Rattle.std.proofs.Common.{◌≡◌, ◌≢◌, ℕ, ◌+◌, List, [], ◌∷◌, ◌++◌, All, eqb, Bool, cond, true, false, refl, sym, ap, subst, ◌∙◌, append_assoc}
+use Rattle.std.proofs.Common.{◌≡◌, ◌≢◌, ℕ, zero, suc, ◌+◌, ◌<◌, ◌≤◌, List, [], ◌∷◌, ◌++◌, All, length, get_or, take, drop, eqb, Bool, cond, true, false, refl, sym, ap, subst, ◌∙◌, arith, add-one, append_assoc}
 use Rattle.std.proofs.lemmas.List.Elements.{All-nil, All-cons, All-head, All-tail}
 use Rattle.text_lines.specs.Lines.{lines, grow, with_ends, ended, ends_line, IsOneLine}
 
@@ -52,6 +52,24 @@ lines-append-end (x ∷ y ∷ ys) b open_ended =
     ap (λ rest. cond (eqb x 10) ([] ∷ rest) (grow x rest)) (lines-append-end (y ∷ ys) b open_ended)
     ∙ before_lines x (eqb x 10) (lines (y ∷ ys)) (lines b) (lines-some y ys)
 
+-- an LF ends a line
+pub ends_line-end : (a : List ℕ) → ends_line (a ++ 10 ∷ []) ≡ true
+ends_line-end [] = refl
+ends_line-end (x ∷ []) = refl
+ends_line-end (x ∷ y ∷ ys) = ends_line-end (y ∷ ys)
+
+-- two texts that end with an LF make one that does
+pub ends_line-append : (a b : List ℕ) → ends_line a ≡ true → ends_line b ≡ true → ends_line (a ++ b) ≡ true
+ends_line-append [] b first second = second
+ends_line-append (x ∷ []) [] first second = first
+ends_line-append (x ∷ []) (y ∷ ys) first second = second
+ends_line-append (x ∷ y ∷ ys) b first second = ends_line-append (y ∷ ys) b first second
+
+-- a text that is put together line by line ends with an LF
+pub ends_line-concat : (ls : List (List ℕ)) → ends_line (with_ends ls) ≡ true
+ends_line-concat [] = refl
+ends_line-concat (line ∷ ls) = ends_line-append (line ++ 10 ∷ []) (with_ends ls) (ends_line-end line) (ends_line-concat ls)
+
 -- a text that is put together line by line has these lines
 pub lines-concat : (ls : List (List ℕ)) → All IsOneLine ls → lines (with_ends ls) ≡ ls
 lines-concat [] ones = refl
@@ -100,3 +118,41 @@ lines-whole (c ∷ cs) = cases (eqb c 10) refl (lines cs) (lines-whole cs)
 -- the first line holds no LF
 pub line-whole : (s line : List ℕ) (rest : List (List ℕ)) → lines s ≡ line ∷ rest → IsOneLine line
 line-whole s line rest is = All-head IsOneLine line rest (let P : List (List ℕ) → Type 0 = All IsOneLine in subst P is (lines-whole s))
+
+-- a text has no more lines than bytes
+pub length-lines-le : (s : List ℕ) → length (lines s) ≤ length s
+length-lines-le [] = omega arith
+length-lines-le (c ∷ cs) = cases (eqb c 10) (lines cs) (length-lines-le cs)
+  where
+    cases : (b : Bool) (rest : List (List ℕ)) → length rest ≤ length cs → length (cond b ([] ∷ rest) (grow c rest)) ≤ length (c ∷ cs)
+    cases true rest h = omega arith
+    cases false [] h = omega arith
+    cases false (line ∷ rest) h = omega arith
+
+-- one more line of a list of lines
+pub record IsTurn (all : List (List ℕ)) (k : ℕ) (line : List ℕ) (rest : List (List ℕ)) : Type 0 where
+  pub within : k < length all
+  pub is : get_or all k [] ≡ line
+  pub taken : take (k + 1) all ≡ take k all ++ line ∷ []
+  pub left : rest ≡ drop (k + 1) all
+
+-- where what is left after k lines begins with a line, that line stands at k
+pub line_turn : (all : List (List ℕ)) (k : ℕ) (line : List ℕ) (rest : List (List ℕ)) → line ∷ rest ≡ drop k all → IsTurn all k line rest
+line_turn [] zero line rest is = cc
+line_turn [] (suc k) line rest is = cc
+line_turn (x ∷ xs) zero line rest is = record { within = omega arith; is = cc; taken = cc; left = cc }
+line_turn (x ∷ xs) (suc k) line rest is =
+    let later : IsTurn xs k line rest = line_turn xs k line rest is in
+    record {
+      within = omega arith;
+      is = later.is;
+      taken = rw add-one (ap (λ front. x ∷ front) (rw add-one at later.taken));
+      left = rw add-one (rw add-one at later.left);
+    }
+
+-- where no line is left after k lines, there are k
+pub lines_done : (all : List (List ℕ)) (k : ℕ) → [] ≡ drop k all → length all ≤ k
+lines_done [] zero is = omega arith
+lines_done (x ∷ xs) zero is = cc
+lines_done [] (suc k) is = omega arith
+lines_done (x ∷ xs) (suc k) is = omega (arith, lines_done xs k is)

@@ -1,11 +1,11 @@
 -- Words of lines that are put together from words.
-use Rattle.std.proofs.Common.{◌≡◌, ℕ, List, [], ◌∷◌, ◌++◌, ◌≤◌, All, eqb, leb, ◌||◌, true, false, refl, sym, ap, ◌∙◌, arith, append-nil}
+use Rattle.std.proofs.Common.{◌≡◌, ℕ, List, [], ◌∷◌, ◌++◌, ◌≤◌, All, eqb, leb, ◌||◌, Bool, cond, true, false, refl, sym, ap, ◌∙◌, arith, append-nil}
 use Rattle.std.proofs.lemmas.Bool.{or_parts, or_from, and_parts, leb-true, ne_eqb}
-use Rattle.std.proofs.lemmas.List.Elements.{All-nil, All-cons, All-head, All-tail, All-weaker}
+use Rattle.std.proofs.lemmas.List.Elements.{All-nil, All-cons, All-head, All-tail, All-append, All-weaker}
 use Rattle.std.specs.List.{join_with_byte, list_all}
 use Rattle.cost_base.specs.Words.{is_blank, ends_a_word, IsOneWord}
 use Rattle.cost_base.specs.Decimal.{is_digit, decimal}
-use Rattle.text_lines.specs.Lines.{words, IsOneLine}
+use Rattle.text_lines.specs.Lines.{words, ends_word, grow, IsOneLine}
 use Rattle.text_lines.specs.Reads.{begins_as_printed}
 use Rattle.text_lines.proofs.WordSteps.{words-front}
 use Rattle.text_lines.proofs.Printed.{decimal-digits, decimal-begins}
@@ -37,6 +37,42 @@ words-join (w ∷ v ∷ vs) ones =
 -- the same behind a space
 pub words-indented : (ws : List (List ℕ)) → All IsOneWord ws → words (32 ∷ join_with_byte 32 ws) ≡ ws
 words-indented ws ones = words-join ws ones
+
+-- a line of words with spaces between holds no LF
+pub join-line : (ws : List (List ℕ)) → All IsOneWord ws → IsOneLine (join_with_byte 32 ws)
+join-line [] ones = All-nil (λ c. eqb c 10 ≡ false)
+join-line (w ∷ []) ones = word-line w (All-head IsOneWord w [] ones)
+join-line (w ∷ v ∷ vs) ones =
+    All-append (λ c. eqb c 10 ≡ false) w (32 ∷ join_with_byte 32 (v ∷ vs)) (word-line w (All-head IsOneWord w (v ∷ vs) ones))
+    (All-cons (λ c. eqb c 10 ≡ false) 32 (join_with_byte 32 (v ∷ vs)) refl (join-line (v ∷ vs) (All-tail IsOneWord w (v ∷ vs) ones)))
+
+-- the words of a line are words
+pub words-whole : (s : List ℕ) → IsOneLine s → All IsOneWord (words s)
+words-whole [] one = All-nil IsOneWord
+words-whole (c ∷ cs) one =
+    let other : eqb c 10 ≡ false = All-head (λ x. eqb x 10 ≡ false) c cs one in
+    cases (is_blank c) refl other (ends_word cs) (words cs) (words-whole cs (All-tail (λ x. eqb x 10 ≡ false) c cs one))
+  where
+    alone : is_blank c ≡ false → eqb c 10 ≡ false → IsOneWord (c ∷ [])
+    alone solid other = record {
+      some = λ e. cc;
+      whole = All-cons (λ x. ends_a_word x ≡ false) c [] (or_from (is_blank c) (eqb c 10) solid other)
+          (All-nil (λ x. ends_a_word x ≡ false));
+    }
+
+    cases : (b : Bool) → is_blank c ≡ b → eqb c 10 ≡ false → (e : Bool) (ws : List (List ℕ)) → All IsOneWord ws →
+        All IsOneWord (cond b ws (cond e ((c ∷ []) ∷ ws) (grow c ws)))
+    cases true is other e ws ones = ones
+    cases false is other true ws ones = All-cons IsOneWord (c ∷ []) ws (alone is other) ones
+    cases false is other false [] ones = All-cons IsOneWord (c ∷ []) [] (alone is other) ones
+    cases false is other false (w ∷ ws) ones =
+        All-cons IsOneWord (c ∷ w) ws
+        (record {
+          some = λ e. cc;
+          whole = All-cons (λ x. ends_a_word x ≡ false) c w
+              (or_from (is_blank c) (eqb c 10) is other) (All-head IsOneWord w ws ones).whole;
+        })
+        (All-tail IsOneWord w ws ones)
 
 digits-whole : (ds : List ℕ) → list_all is_digit ds ≡ true → All (λ c. ends_a_word c ≡ false) ds
 digits-whole [] digits = All-nil (λ c. ends_a_word c ≡ false)

@@ -13,7 +13,7 @@ use Rattle.area_graph.specs.declared.Price.{Price}
 use Rattle.area_graph.specs.declared.Price.TheVariants.{Zero}
 use Rattle.area_graph.specs.declared.Edge.{Edge}
 use Rattle.area_graph.specs.Area.{Area, edge_at, no_edge}
-use Rattle.area_graph.specs.Paths.{Joins, visited, IsSimple}
+use Rattle.area_graph.specs.Paths.{Joins, visited, IsSimple, Avoids}
 use Rattle.lsdb_build.specs.declared.Far.{Far}
 use Rattle.lsdb_build.specs.declared.Far.TheVariants.{Router as ToRouter, Subnet as ToSubnet}
 use Rattle.lsdb_build.specs.declared.Linked.{Linked}
@@ -289,3 +289,8 @@ route_simple d prices route base same resolves =
       none_twice = none_twice_is (visited (graph_at d prices) (router_number d (next_name route.hops route.last))
           (route_edges d (graph_at d prices) route.hops route.last)) whole.1;
     }
+
+-- a path avoids what isn't there
+pub avoids_none : (es : List ℕ) → Avoids [] es
+avoids_none [] = tt
+avoids_none (e ∷ es) = (tt, avoids_none es)

@@ -1,11 +1,13 @@
 -- The faults of a walk: where its words are known and its hops join, it has one exactly where a vertex comes twice.
-use Rattle.std.proofs.Common.{◌≡◌, ◌↔◌, ℕ, ◌+◌, refl, List, [], ◌∷◌, map, Bool, true, false}
+use Rattle.std.proofs.Common.{◌≡◌, ◌↔◌, ℕ, ◌+◌, refl, List, [], ◌∷◌, ◌++◌, map, Bool, true, false}
 use Rattle.std.specs.Prelude.{IsTrue, not, ◌&&◌, ◌==◌, if◌then◌else◌}
 use Rattle.std.specs.List.{list_any}
 use Rattle.std.proofs.lemmas.List.{length-map}
 use Rattle.std.proofs.lemmas.Bool.{and_from, not_from_false}
-use Rattle.cost_base.specs.Lists.{NoneTwice}
+use Rattle.cost_base.specs.Lists.{first_of, NoneTwice}
 use Rattle.cost_base.proofs.ListLemmas.{append-none, same_test}
+use Rattle.cost_base.specs.declared.refusal.Refusal.{Refusal}
+use Rattle.cost_base.specs.declared.refusal.Refusal.TheVariants.{Refused, OutOfMemory}
 use Rattle.area_graph.specs.declared.Price.{Price}
 use Rattle.area_graph.specs.declared.Price.TheVariants.{Fixed}
 use Rattle.area_graph.specs.Paths.{visited, IsSimple}
@@ -16,7 +18,7 @@ use Rattle.request_reader.specs.WrittenRoutes.{Route}
 use Rattle.wanted_paths.specs.Paths.{next_name, router_number, route_edges}
 use Rattle.wanted_paths.specs.Resolution.{knows_router, knows_link, is_known, is_joined, is_none_twice, is_loop_free}
 use Rattle.wanted_paths.specs.declared.fault.ResolutionFault.{ResolutionFault}
-use Rattle.wanted_paths.specs.LineFaults.{fault_unless, router_faults, interface_faults, hop_faults, leads_on, broken_faults, walk_faults}
+use Rattle.wanted_paths.specs.LineFaults.{fault_unless, router_faults, interface_faults, hop_faults, leads_on, broken_faults, walk_faults, TellsResolution}
 use Rattle.wanted_paths.specs.Paths.{outline}
 use Rattle.wanted_paths.specs.Walks.{IsWalk}
 use Rattle.wanted_paths.proofs.RouteLaws.{route_simple, lacks_test}
@@ -28,6 +30,17 @@ well_from false fault some = absurd (clash some)
   where
     clash : (fault ∷ []) ≡ [] → ⊥
     clash h = cc
+
+-- what tells the first of some faults tells the first where others come after them
+pub tells_front : (xs ys : List ResolutionFault) (stop : Refusal ResolutionFault (Unit {0})) → TellsResolution (first_of xs) stop → TellsResolution (first_of (xs ++ ys)) stop
+tells_front [] ys (Refused told place) tells = absurd (cc)
+tells_front [] ys OutOfMemory tells = tt
+tells_front (x ∷ xs) ys stop tells = tells
+
+-- and so where none come before them
+pub tells_back : (xs ys : List ResolutionFault) (stop : Refusal ResolutionFault (Unit {0})) → xs ≡ [] → TellsResolution (first_of ys) stop →
+    TellsResolution (first_of (xs ++ ys)) stop
+tells_back xs ys stop none tells = rw none tells
 
 pub words_known : (d : Database) (line : ℕ) (hops : List (List ℕ × List ℕ)) (last : List ℕ) → hop_faults d line hops last ≡ [] → is_known d hops last ≡ true
 words_known d line [] last none = well_from (knows_router d last) (UnknownRouter line) none

@@ -1,6 +1,7 @@
 -- The sizes of sums and negations, of products with a number and their factors, and of positive numbers.
 use Rattle.std.proofs.Common.{◌≡◌, ℕ, zero, suc, ◌+◌, ◌*◌, ◌<◌, ◌≤◌, refl, arith}
-use Rattle.std.specs.Prelude.{ℤ, pos, negsuc, ◌+ℤ◌, ◌*ℤ◌, ◌<ℤ◌, neg_ℤ, nat_abs}
+use Rattle.std.specs.Prelude.{ℤ, pos, negsuc, ◌+ℤ◌, ◌*ℤ◌, ◌<ℤ◌, ◌≤ℤ◌, neg_ℤ, nat_abs}
+use Rattle.std.proofs.Math.Nat.{mul-le-mul_left}
 use Rattle.std.proofs.lemmas.Int.{ints, unsigned_abs-mul}
 
 -- the size of a sum is at most the sum of the sizes
@@ -27,3 +28,7 @@ positive_is z positive = omega (arith, ints, positive)
 pub size_positive : (z : ℤ) → pos 0 <ℤ z → 0 < nat_abs z
 size_positive (pos n) high = omega (arith, ints)
 size_positive (negsuc n) high = absurd (omega (arith, ints))
+
+-- a product with a positive number bounds the other factor
+pub factor_most : (a b : ℤ) (most : ℕ) → pos 1 ≤ℤ a → nat_abs b * nat_abs a ≤ most → nat_abs b ≤ most
+factor_most a b most some product = omega (arith, product, mul-le-mul_left (nat_abs b) (let e : 1 ≤ nat_abs a = omega (arith, ints, some) in e))

@@ -1,19 +1,21 @@
 -- At a pivot of the whole table the numbers of every form turn as those of x - low do, and the columns of the new
 -- basis' forms are their own.
-use Rattle.std.proofs.Common.{◌≡◌, ◌≢◌, ℕ, suc, ◌*◌, ◌<◌, ◌≤◌, refl, sym, ◌∙◌, ap, subst, List, [], ◌∷◌, length, arith, inl, inr, zero-add, get_or-set_same, get_or-set_other}
-use Rattle.std.specs.Prelude.{ℤ, pos, ◌*ℤ◌, slice_index_or, slice_set}
+use Rattle.std.proofs.Common.{◌≡◌, ◌≢◌, ℕ, suc, ◌+◌, ◌*◌, ◌<◌, ◌≤◌, refl, sym, ◌∙◌, ap, subst, List, [], ◌∷◌, map, length, arith, inl, inr, zero-add, get_or-set_same, get_or-set_other}
+use Rattle.std.specs.Prelude.{ℤ, pos, ◌-ℤ◌, ◌*ℤ◌, slice_index_or, slice_set}
 use Rattle.std.proofs.Math.Nat.{suc_inj}
 use Rattle.std.proofs.lemmas.Bool.{cases_eq}
 use Rattle.std.proofs.lemmas.List.{length-set}
-use Rattle.cost_base.proofs.ListLemmas.{length-map-numbers_from, get_or-map-numbers_from}
+use Rattle.cost_base.specs.Lists.{numbers_from}
+use Rattle.cost_base.proofs.ListLemmas.{length-map-numbers_from, get_or-map-numbers_from, map-numbers_from-agree}
 use Rattle.whole_numbers.proofs.Ring.{var, ◌⊗◌, ring}
 use Rattle.whole_numbers.specs.Lists.{number_at}
 use Rattle.design_problem.specs.declared.form.Form.{Form}
 use Rattle.design_problem.specs.Forms.{no_form}
 use Rattle.design_problem.specs.Basis.{IsMixture}
 use Rattle.fraction_table.specs.ValidTables.{AllLong, AreMixtures, number_of_form, numbers_of_form}
+use Rattle.fraction_table.proofs.theory.Blends.{listed_at}
 use Rattle.fraction_table.proofs.theory.Pivot.{turned, crossed, length-crossed, pivot_keeps}
-use Rattle.fraction_table.proofs.theory.Turns.{turned_rows, number_same, stays, enters}
+use Rattle.fraction_table.proofs.theory.Turns.{turned_rows, turned_other, turned_same, number_other, number_same, stays, enters}
 
 pub numbers_long : (n D : ℕ) (low : List ℕ) (lows : List (List ℤ)) (f : Form) → length (numbers_of_form n D low lows f) ≡ suc n
 numbers_long n D low lows f = length-map-numbers_from (number_of_form D low lows f) 0 (suc n)
@@ -26,6 +28,33 @@ numbers_at n D low lows f place place_in =
 length-turned : (fs rs : List ℤ) (j D : ℕ) → length fs ≡ length rs → length (turned fs rs j D) ≡ length fs
 length-turned fs rs j D same =
     length-set (crossed (number_at rs j) (number_at fs j) fs rs) j (number_at fs j *ℤ pos D) ∙ length-crossed (number_at rs j) (number_at fs j) fs rs same
+
+pub numbers_turned : (n D a : ℕ) (low : List ℕ) (lows : List (List ℤ)) (f : Form) (rs : List ℤ) (j : ℕ) →
+    length rs ≡ suc n → AllLong (length rs) lows → number_at rs (suc j) ≡ pos a → j < n →
+    numbers_of_form n (D * a) low (turned_rows lows rs (suc j) D) f ≡ turned (numbers_of_form n D low lows f) rs (suc j) D
+numbers_turned n D a low lows f rs j counted long at_j j_in =
+    let fs = numbers_of_form n D low lows f in
+    let same : length fs ≡ length rs = numbers_long n D low lows f ∙ sym counted in
+    let news = turned fs rs (suc j) D in
+    let place_turned : (place : ℕ) → 0 ≤ place → place < 0 + suc n → number_of_form (D * a) low (turned_rows lows rs (suc j) D) f place ≡ number_at news place =
+    λ place from place_in. (
+    elim (cases_eq place (suc j)) [
+      | inl own ↦
+          subst (λ (p : ℕ). number_of_form (D * a) low (turned_rows lows rs (suc j) D) f p ≡ number_at news p) (sym own)
+          (number_same D a low lows f rs j long (omega (arith, counted))
+          ∙ ap (λ z. z *ℤ pos D) (sym (numbers_at n D low lows f (suc j) (omega (arith, j_in))))
+          ∙ sym (turned_same fs rs (suc j) D same (omega (arith, same, counted, j_in))))
+      | inr other ↦
+          number_other D a low lows f rs j place long at_j other (omega (arith, counted))
+          ∙ ap (λ z. (z *ℤ pos a) -ℤ (number_of_form D low lows f (suc j) *ℤ number_at rs place)) (sym (numbers_at n D low lows f place (omega arith)))
+          ∙ ap (λ z. (number_at fs place *ℤ pos a) -ℤ (z *ℤ number_at rs place)) (sym (numbers_at n D low lows f (suc j) (omega (arith, j_in))))
+          ∙ ap (λ z. (number_at fs place *ℤ z) -ℤ (number_at fs (suc j) *ℤ number_at rs place)) (sym at_j)
+          ∙ sym (turned_other fs rs (suc j) D place same other (omega (arith, same, counted)))
+    ]
+    ) in
+    map-numbers_from-agree (number_of_form (D * a) low (turned_rows lows rs (suc j) D) f) (number_at news) 0 (suc n) place_turned
+    ∙ ap (λ m. map (number_at news) (numbers_from 0 m)) (sym (length-turned fs rs (suc j) D same ∙ numbers_long n D low lows f))
+    ∙ listed_at news
 
 pub long_turned : (D j : ℕ) (rs : List ℤ) (lows : List (List ℤ)) → AllLong (length rs) lows → AllLong (length rs) (turned_rows lows rs j D)
 long_turned D j rs [] long = tt
