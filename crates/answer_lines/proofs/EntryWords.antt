@@ -1,5 +1,5 @@
 -- The words of tree lines.
-use Rattle.std.proofs.Common.{◌≡◌, ◌≢◌, ℕ, ◌<◌, ◌≤◌, ◌^◌, List, [], ◌∷◌, ◌++◌, All, length, codes, arith, refl, sym, ap, subst, ◌∙◌, append_assoc}
+use Rattle.std.proofs.Common.{◌≡◌, ◌≢◌, ℕ, ◌<◌, ◌≤◌, ◌^◌, List, [], ◌∷◌, ◌++◌, All, length, codes, MatchOption, Option, Some, None, arith, refl, sym, ap, subst, ◌∙◌, append_assoc}
 use Rattle.std.proofs.lemmas.List.Elements.{All-head, All-tail}
 use Rattle.cost_base.specs.Decimal.{decimal}
 use Rattle.cost_base.proofs.ListLemmas.{All-right}
@@ -13,7 +13,7 @@ use Rattle.design_problem.specs.declared.tree.Entry.TheVariants.{Tighten, Split,
 use Rattle.design_problem.specs.declared.tree.WideAt.{WideAt}
 use Rattle.design_problem.specs.AnswerRanges.{IsIndex, IsCost, IsRowNumber, BoundsMember, BoundsParts, BoundsEntry}
 use Rattle.design_problem.specs.Text.{side_word, member_words, members_words, multiplier_words, step_word, ratio_word, entry_line, spaced, FitsEntry}
-use Rattle.answer_lines.specs.Words.{entry_words, SaysNoEntry}
+use Rattle.answer_lines.specs.Words.{entry_words, SaysEntry, SaysNoEntry}
 use Rattle.std.proofs.Common.{get_or}
 use Rattle.std.specs.Prelude.{AllPairs}
 use Rattle.answer_lines.specs.declared.entries.HalveFront.{HalveFront}
@@ -62,6 +62,26 @@ only_refute ws h (Split v b) says = other_kind 114 115 _ _ _ _ (λ e. omega arit
 only_refute ws h (Halve v b wide) says = other_kind 114 104 _ _ _ _ (λ e. omega arith) says.is
 only_refute ws h (Refute parts) says = h parts says.bounds says.fits.0 says.fits.1 (tail-is _ _ _ _ says.is)
 only_refute ws h Undone says = other_kind 114 111 _ _ _ _ (λ e. omega arith) says.is
+
+-- words along an equation
+pub says-along : (ws vs : List (List ℕ)) (o : Option Entry) → ws ≡ vs →
+    MatchOption o (SaysNoEntry vs) (λ e. SaysEntry vs e) → MatchOption o (SaysNoEntry ws) (λ e. SaysEntry ws e)
+says-along ws vs o is h = subst (λ us. MatchOption o (SaysNoEntry us) (λ e. SaysEntry us e)) (sym is) h
+
+-- words that begin with no name of an entry say none
+pub no_kind : (ws : List (List ℕ)) (o : Option Entry) → ((rest : List (List ℕ)) → ws ≢ codes "tighten" ∷ rest) →
+    ((rest : List (List ℕ)) → ws ≢ codes "split" ∷ rest) →
+    ((rest : List (List ℕ)) → ws ≢ codes "halve" ∷ rest) → ((rest : List (List ℕ)) → ws ≢ codes "refute" ∷ rest) →
+    MatchOption o (ws ≢ codes "open" ∷ []) (λ e. SaysEntry ws e) → MatchOption o (SaysNoEntry ws) (λ e. SaysEntry ws e)
+no_kind ws (Some e) a b c d h = h
+no_kind ws None a b c d h = none
+  where
+    none : SaysNoEntry ws
+    none (Tighten v side bound row) says = a _ says.is
+    none (Split v bound) says = b _ says.is
+    none (Halve v bound wide) says = c _ says.is
+    none (Refute parts) says = d _ says.is
+    none Undone says = h says.is
 
 -- where words are neither a row nor begin with a side, they are no member
 pub no_member : (ws : List (List ℕ)) → ((rest : List (List ℕ)) → ws ≢ codes "row" ∷ rest) →

@@ -1,5 +1,5 @@
--- Rounds of a relaxation: the forms fit the box, the tableau that is kept holds the first forms of a pool that grew,
--- and each new form is one that was missing.
+-- Rounds of a relaxation: the forms fit the box, the tableau that is kept holds the first forms of a pool that grew, and
+-- each new form is one that was missing.
 use Rattle.std.proofs.Common.{◌≡◌, ℕ, ◌<◌, refl, sym, ◌∙◌, subst, inl, inr, List, ◌++◌, length, Option, None, Some, Ok, arith}
 use Rattle.std.specs.Prelude.{All, Contains, Result, Err, IfOk, IfSome}
 use Rattle.std.proofs.lemmas.List.{length-append, take-append-le}
@@ -12,7 +12,7 @@ use Rattle.form_search.specs.declared.relaxation.Relaxed.{Relaxed}
 use Rattle.form_search.specs.declared.held_tableau.HeldTableau.{HeldTableau}
 use Rattle.form_search.specs.Sources.{Grows, IsTrueForm}
 use Rattle.form_search.specs.Points.{IsCostsBox}
-use Rattle.form_search.specs.Tables.{IsHeld, IsRelaxation, IsRoundTold, StandsAt}
+use Rattle.form_search.specs.Tables.{IsHeld, IsRelaxation, IsRoundTold, IsTableauKept, StandsAt}
 use Rattle.form_search.specs.NextEntries.{HasNew}
 use Rattle.form_search.proofs.CostPoints.{low_values}
 use Rattle.form_search.proofs.MissingForms.{missing, missing_falls}
@@ -40,6 +40,11 @@ held_more top n old new more table same held = subst (λ (forms : List Form). Is
   rows = held.rows ∙ sym (take-append-le held.taken old more held.few);
   all = held.all;
 })
+
+-- so does one that is kept
+pub kept_more : (old new more : List Form) (kept : Option HeldTableau) → new ≡ old ++ more → IsTableauKept old kept → IsTableauKept new kept
+kept_more old new more None same is = tt
+kept_more old new more (Some table) same is = held_more table.top table.variables old new more table same is
 
 -- and one that stands over a box stands there with more forms
 pub stands_more : (top : ℕ) (box : CostBox) (old new more : List Form) (table : HeldTableau) → new ≡ old ++ more →
@@ -79,9 +84,9 @@ new_true IsTrue old new form grows is_new not_old =
     ]
 
 -- so fewer candidates are missing
-pub new_falls : (IsTrue : Form → Type 0) (possible_forms old new : List Form) →
-    ((form : Form) → IsTrue form → Contains possible_forms form) → Grows IsTrue old new → HasNew old new →
-    missing possible_forms new < missing possible_forms old
-new_falls IsTrue possible_forms old new listed grows has =
-    missing_falls possible_forms old new has.form grows.more grows.same
+pub new_falls : (IsTrue : Form → Type 0) (candidates old new : List Form) →
+    ((form : Form) → IsTrue form → Contains candidates form) → Grows IsTrue old new → HasNew old new →
+    missing candidates new < missing candidates old
+new_falls IsTrue candidates old new listed grows has =
+    missing_falls candidates old new has.form grows.more grows.same
     (listed has.form (new_true IsTrue old new has.form grows has.is_new has.not_old)) has.is_new has.not_old
