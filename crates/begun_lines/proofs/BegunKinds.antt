@@ -12,8 +12,8 @@ use Rattle.design_problem.specs.declared.tree.Member.{Member}
 use Rattle.design_problem.specs.declared.tree.Member.TheVariants.{Low, High, Row}
 use Rattle.design_problem.specs.declared.tree.Entry.{Entry}
 use Rattle.design_problem.specs.declared.tree.Entry.TheVariants.{Tighten, Split, Halve, Refute, Undone}
-use Rattle.design_problem.specs.Bounds.{IsIndex, IsCost, IsRowNumber, BoundsMember, BoundsParts, BoundsEntry}
-use Rattle.design_problem.specs.Text.{side_word, step_word, ratio_word, member_words, members_words, part_words, entry_line, spaced, FitsEntry}
+use Rattle.design_problem.specs.AnswerRanges.{IsIndex, IsCost, IsRowNumber, BoundsMember, BoundsParts, BoundsEntry}
+use Rattle.design_problem.specs.Text.{side_word, step_word, ratio_word, member_words, members_words, multiplier_words, entry_line, spaced, FitsEntry}
 use Rattle.text_lines.specs.Numbers.{split}
 use Rattle.whole_numbers.proofs.Divisors.{one-gcd}
 use Rattle.evidence_text.specs.declared.TreePart.{TreePart}
@@ -233,7 +233,7 @@ entry_kinds ws is = cases is.0 is.1.bounds is.1.fits is.1.is
         let members : MembersWords (members_words wide.basis) = (wide.basis, fits.2, bounds.2, refl) in
         inr (inr (inr (subst HalveWords (sym e) (refl, (var, (value, (step, (left, (right, members)))))))))
     cases (Refute ps) bounds fits e =
-        let parts : PartsWords 0 (part_words ps) = (ps, fits.0, rising-from 0 ps (λ i d within. omega arith) bounds fits.1, refl) in
+        let parts : PartsWords 0 (multiplier_words ps) = (ps, fits.0, rising-from 0 ps (λ i d within. omega arith) bounds fits.1, refl) in
         inl (inl (subst RefuteWords (sym e) (refl, parts)))
     cases Undone bounds fits e = inl (inr (subst OpenWords (sym e) refl))
 
@@ -301,7 +301,7 @@ refute_entry ws is =
       record {
         bounds = rising.bounds;
         fits = (parts.1, rising.small);
-        is = joined ws name.rest (part_words parts.0) name.w (codes "refute") name.is name.first parts.3;
+        is = joined ws name.rest (multiplier_words parts.0) name.w (codes "refute") name.is name.first parts.3;
       },
     )
 

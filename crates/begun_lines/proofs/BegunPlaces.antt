@@ -5,9 +5,9 @@ use Rattle.design_problem.specs.declared.answer.Verdict.{Verdict}
 use Rattle.design_problem.specs.declared.answer.Verdict.TheVariants.{Optimal, Impossible, Undecided}
 use Rattle.design_problem.specs.declared.answer.Floor.{Floor}
 use Rattle.design_problem.specs.declared.answer.Floor.TheVariants.{Absent, Empty, Var}
-use Rattle.design_problem.specs.Bounds.{BoundsVerdict, BoundsFloor}
+use Rattle.design_problem.specs.AnswerRanges.{BoundsVerdict, BoundsFloor}
 use Rattle.text_lines.proofs.Digits.{length-decimal-le}
-use Rattle.evidence_text.specs.Parts.{verdict_line, floor_line}
+use Rattle.design_problem.specs.Text.{verdict_line, floor_line}
 use Rattle.answer_lines.specs.declared.other_text.OtherText.{OtherText}
 use Rattle.answer_lines.specs.Grammar.{TextPlace, AtVerdict, AtCosts, AtSections, AtInterface, AtCost, AtFloor, AtRows, AtRow, AtSectionsEnd, Next, IsInterfaceAgain}
 use Rattle.answer_lines.proofs.FirstLines.{has-room}

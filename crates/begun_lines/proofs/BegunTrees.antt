@@ -7,7 +7,7 @@ use Rattle.text_lines.proofs.Pieces.{split-some}
 use Rattle.text_lines.proofs.Digits.{length-decimal-le}
 use Rattle.evidence_text.specs.Parts.{no_tree_line, tree_line}
 use Rattle.evidence_text.specs.declared.TreePart.{TreePart}
-use Rattle.evidence_text.specs.declared.TreePart.TheVariants.{Proof, Unfinished}
+use Rattle.evidence_text.specs.declared.TreePart.TheVariants.{Proof, Undecided}
 use Rattle.answer_lines.specs.Grammar.{TextPlace, AtRow, AtTree, IsPartNext, Next}
 use Rattle.answer_lines.specs.Places.{BeginsLawful}
 use Rattle.begun_lines.specs.Begun.{IsLineFront, IsNumberWord, BeginsNumber, BeginsTree, BeginsCount}
@@ -150,5 +150,5 @@ proof-begun rest =
 
 pub open-begun : (rest : List ℕ) → (IsLineFront rest (codes "open none") ⊎ BeginsTree rest (codes "open ")) ↔ BeginsLawful (AtTree Proof zero zero) rest
 open-begun rest =
-    part-begun (AtTree Proof zero zero) Unfinished (codes "open none") (codes "open ") rest (λ line next. (λ is. is, λ is. is)) refl
+    part-begun (AtTree Proof zero zero) Undecided (codes "open none") (codes "open ") rest (λ line next. (λ is. is, λ is. is)) refl
     (omega arith) (λ cap count. refl) (omega arith)

@@ -9,8 +9,8 @@ use Rattle.cost_base.specs.declared.StepName.TheVariants.{Mul, Div, Lcm, Scale}
 use Rattle.design_problem.specs.declared.tree.Side.{Side}
 use Rattle.design_problem.specs.declared.tree.Member.{Member}
 use Rattle.design_problem.specs.declared.tree.Entry.{Entry}
-use Rattle.design_problem.specs.Bounds.{BoundsMember}
-use Rattle.design_problem.specs.Text.{side_word, step_word, ratio_word, member_words, members_words, part_words, IsPrintedRatio}
+use Rattle.design_problem.specs.AnswerRanges.{BoundsMember}
+use Rattle.design_problem.specs.Text.{side_word, step_word, ratio_word, member_words, members_words, multiplier_words, IsPrintedRatio}
 use Rattle.answer_lines.specs.Words.{SaysEntry}
 use Rattle.begun_lines.specs.declared.begun.Begun.{Begun}
 use Rattle.begun_lines.specs.declared.numbers.Numbers.{Numbers}
@@ -49,7 +49,8 @@ pub record IsLeastCompletion (word : List ℕ → Type 0) (begun : List ℕ) (co
 abbrev pub IsMissing : (List ℕ → Type 0) → List ℕ → Option ℕ → Type 0
 IsMissing word begun found = MatchOption found (Never word begun) (IsLeastCompletion word begun)
 
--- what follows a word: what goes on with the one goes on with the other
+-- a begun line behind one more word: the line before goes on with a word of the kind and more words exactly where the
+-- line after goes on with these
 pub record IsWordStep (word : List ℕ → Type 0) (before after : Begun) : Type 0 where
   pub forth : (more w : List ℕ) (ws : List (List ℕ)) → word w → ws ≢ [] → split 32 (before.text.now ++ more) ≡ w ∷ ws → length more ≤ before.room →
       (left : List ℕ) × (ws ≡ split 32 (after.text.now ++ left)) × (length left ≤ after.room)
@@ -138,7 +139,7 @@ IsRising least (part ∷ parts) = IsCoprimeInRange (rows_from least) part.0 × I
 
 -- some rows that rise from a number on, with their multipliers
 abbrev pub PartsWords : ℕ → List (List ℕ) → Type 0
-PartsWords least ws = (parts : List (ℕ × ℕ)) × (parts ≢ []) × IsRising least parts × (ws ≡ part_words parts)
+PartsWords least ws = (parts : List (ℕ × ℕ)) × (parts ≢ []) × IsRising least parts × (ws ≡ multiplier_words parts)
 
 -- the words of a Refute
 abbrev pub RefuteWords : List (List ℕ) → Type 0

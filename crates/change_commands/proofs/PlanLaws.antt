@@ -1,22 +1,24 @@
 -- The steps that cost lines make, line by line and link by link.
 use Rattle.std.proofs.Common.{◌≡◌, ℕ, zero, suc, ◌+◌, ◌<◌, ◌≤◌, refl, sym, ◌∙◌, ap, subst, List, [], ◌∷◌, ◌++◌, length, map, filter, drop, get_or, arith, All, append_assoc, inl, inr, Bool, true, false, cond, Option, None, Some}
-use Rattle.std.specs.Prelude.{◌==◌, ◌||◌, ◌⊎◌, slice_index, slice_set, slice_index_or}
+use Rattle.std.specs.Prelude.{◌==◌, ◌||◌, ◌⊎◌, slice_index, slice_set}
 use Rattle.std.specs.List.{cons_option, list_any}
-use Rattle.std.proofs.lemmas.Bool.{eqb-true, eq-eqb, ne_eqb}
-use Rattle.std.proofs.lemmas.List.{at_drop_all, at_drop_more, get_or_default, length-set, get_or-set_same, get_or-set_other}
+use Rattle.std.proofs.Math.Bool.{or_comm}
+use Rattle.std.proofs.lemmas.Bool.{eqb-true}
+use Rattle.std.proofs.lemmas.List.{at_drop_all, at_drop_more, get_or_default, length-set}
 use Rattle.std.proofs.lemmas.List.Elements.{All-cons, All-filter, All-head, All-nil, All-set, All-tail, filter_map-append}
 use Rattle.std.proofs.lemmas.Option.{slice_get_within}
-use native.Mathlib.Decide.{ℕ_discrete}
 use Rattle.cost_base.specs.Lists.{numbers_from, Has}
 use Rattle.cost_base.proofs.ListLemmas.{all_kept, numbers_from-push}
+use Rattle.cost_base.specs.Marks.{is_marked, is_one_of}
+use Rattle.cost_base.proofs.MarkLaws.{written_mark}
 use Rattle.lsdb_build.specs.declared.Linked.{Linked}
 use Rattle.lsdb_build.specs.Graphs.{Database, router_of}
 use Rattle.design_problem.specs.declared.answer.CostLine.{CostLine}
 use Rattle.wanted_paths.specs.Paths.{link_number}
 use Rattle.wanted_paths.specs.Resolution.{knows_link}
 use Rattle.wanted_paths.proofs.RouteLaws.{link_known}
-use Rattle.change_commands.specs.declared.fault.PlanFault.{PlanFault}
-use Rattle.change_commands.specs.declared.fault.PlanFault.TheVariants.{LineTwice}
+use Rattle.sections_reader.specs.declared.fault.CostsFault.{CostsFault}
+use Rattle.sections_reader.specs.declared.fault.CostsFault.TheVariants.{LineTwice}
 use Rattle.change_steps.specs.Rollouts.{AreMoves, IsInterfaceCost}
 use Rattle.command_words.specs.declared.job.StepUnit.{StepUnit}
 use Rattle.command_words.specs.declared.job.StepUnit.TheVariants as unit
@@ -41,17 +43,16 @@ pub fault_none : (d : Database) (before : List ℕ) (line : CostLine) → knows_
     list_any (λ l. l == link_of_line d line) before ≡ false → line_fault d before line ≡ None
 fault_none d before line known new = rw (known, new) refl
 
+-- what is wrong with a line
+pub ruleset line_faults = (known_within, fault_twice, fault_none)
+
 -- Line after line.
 
 -- one link more is marked
 pub marked_more : (before : List ℕ) (seen : List Bool) (l : ℕ) → l < length seen → AreSeen before seen → AreSeen (l ∷ before) (slice_set seen l true)
 marked_more before seen l within marked k =
-    elim (ℕ_discrete k l) [
-      | yes same ↦ ap (λ n. get_or (slice_set seen l true) n false) same ∙ get_or-set_same seen l true false within
-          ∙ sym (ap (λ b. b || list_any (λ m. m == k) before) (eq-eqb l k (sym same)))
-      | no other ↦ get_or-set_other seen l k true false other ∙ marked k
-          ∙ sym (ap (λ b. b || list_any (λ m. m == k) before) (ne_eqb l k (λ same. other (sym same))))
-    ]
+    written_mark seen l k (λ same. within)
+    ∙ ap (λ (b : Bool). b || (l == k)) (marked k) ∙ or_comm (is_one_of before k) (l == k)
 
 -- how far the lines were taken: what the rest comes to is what all come to
 pub record AreTakenTo (d : Database) (present : List ℕ) (lines : List CostLine) (i : ℕ) (costs : List ℕ) (seen : List Bool) : Type 0 where
@@ -64,7 +65,7 @@ pub record AreTakenTo (d : Database) (present : List ℕ) (lines : List CostLine
 
 -- no line is taken yet
 pub none_taken : (d : Database) (present : List ℕ) (lines : List CostLine) (costs : List ℕ) (seen : List Bool) → costs ≡ present →
-    length seen ≡ length present → ((k : ℕ) → slice_index_or seen k false ≡ false) → length present ≡ length d.links →
+    length seen ≡ length present → ((k : ℕ) → is_marked seen k ≡ false) → length present ≡ length d.links →
     AreTakenTo d present lines 0 costs seen
 none_taken d present lines costs seen same counted none count = record {
   before = [];
@@ -96,13 +97,13 @@ line_taken d present lines i costs seen line new_costs new_seen taken within at 
       rest = ap (λ (cs : List ℕ). with_lines d cs (drop (i + 1) lines)) is.1 ∙ sym (ap (with_lines d costs) next) ∙ taken.rest;
     }
   where
-    no_fault : (f : Option PlanFault) → f ≡ None → or_first f (first_fault_after d (link_of_line d line ∷ taken.before) (drop (i + 1) lines)) ≡ first_fault_after d (link_of_line d line ∷ taken.before) (drop (i + 1) lines)
+    no_fault : (f : Option CostsFault) → f ≡ None → or_first f (first_fault_after d (link_of_line d line ∷ taken.before) (drop (i + 1) lines)) ≡ first_fault_after d (link_of_line d line ∷ taken.before) (drop (i + 1) lines)
     no_fault None is = refl
     no_fault (Some fault) is = absurd cc
 
 -- a line with a fault
 pub line_refused : (d : Database) (present : List ℕ) (lines : List CostLine) (i : ℕ) (costs : List ℕ) (seen : List Bool)
-    (line : CostLine) (fault : PlanFault) (taken : AreTakenTo d present lines i costs seen) →
+    (line : CostLine) (fault : CostsFault) (taken : AreTakenTo d present lines i costs seen) →
     i < length lines → line ≡ get_or lines i line → line_fault d taken.before line ≡ Some fault → first_line_fault d lines ≡ Some fault
 line_refused d present lines i costs seen line fault taken within at is =
     let next : drop i lines ≡ line ∷ drop (i + 1) lines = at_drop_more (λ ls. ls) lines i line within ∙ ap (λ (x : CostLine). x ∷ drop (i + 1) lines) (sym at) in

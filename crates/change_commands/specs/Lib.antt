@@ -1,4 +1,3 @@
-pub mod FaultNumbers
 pub mod ChangedLines
 pub mod Changes
 pub mod ShortParts

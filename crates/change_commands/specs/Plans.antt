@@ -13,8 +13,8 @@ use Rattle.present_costs.specs.PresentCosts.{present_of_links}
 use Rattle.change_steps.specs.Rollouts.{CostMoves, Rollout}
 use Rattle.command_words.specs.declared.job.StepUnit.{StepUnit}
 use Rattle.command_words.specs.declared.job.StepUnit.TheVariants as unit
-use Rattle.change_commands.specs.declared.fault.PlanFault.{PlanFault}
-use Rattle.change_commands.specs.declared.fault.PlanFault.TheVariants.{NoLink, LineTwice}
+use Rattle.sections_reader.specs.declared.fault.CostsFault.{CostsFault}
+use Rattle.sections_reader.specs.declared.fault.CostsFault.TheVariants.{NoInterface, LineTwice}
 use Rattle.input_files.specs.declared.problem.View.TheVariants.{AtPresent}
 use Rattle.input_files.specs.declared.network.Network.{Network}
 use Rattle.input_files.specs.Inputs.{InputFiles}
@@ -39,12 +39,12 @@ plan_with answer d = file_read longest_answer answer >>= λ bytes. Ready (record
 
 -- the network is one at present costs: they are above 0, and its problem is the one that they make
 pub record IsAtPresent (network : Network) : Type 0 where
-  pub above : All (λ cost. 0 < cost) (present_of_links network.requests network.lsdb)
-  pub problem : network.problem ≡ present_problem_of network.requests network.lsdb
+  pub above : All (λ cost. 0 < cost) (present_of_links network.request_file network.lsdb)
+  pub problem : network.problem ≡ present_problem_of network.request_file network.lsdb
 
 -- the plan's network has these requests, this database and this problem
 pub record IsPlanOf (network : Network) (plan : Plan) : Type 0 where
-  pub requests : network.requests ≡ plan.input.asked
+  pub request_file : network.request_file ≡ plan.input.asked
   pub lsdb : network.lsdb ≡ plan.input.database
   pub problem : network.problem ≡ plan.input.problem
 
@@ -53,23 +53,23 @@ abbrev pub link_of_line : Database → CostLine → ℕ
 link_of_line d line = link_number d line.router line.interface
 
 -- what is wrong with a cost line that comes after lines of these links
-abbrev pub line_fault : Database → List ℕ → CostLine → Option PlanFault
+abbrev pub line_fault : Database → List ℕ → CostLine → Option CostsFault
 line_fault d before line =
     if knows_link d line.router line.interface then (if list_any (λ l. l == link_of_line d line) before then Some LineTwice else None)
-    else Some NoLink
+    else Some NoInterface
 
 -- the first of two faults of cost lines, where there is one
-abbrev pub or_first : Option PlanFault → Option PlanFault → Option PlanFault
+abbrev pub or_first : Option CostsFault → Option CostsFault → Option CostsFault
 or_first None later = later
 or_first (Some fault) later = Some fault
 
 -- the first thing that is wrong with cost lines that come after lines of these links
-abbrev pub first_fault_after : Database → List ℕ → List CostLine → Option PlanFault
+abbrev pub first_fault_after : Database → List ℕ → List CostLine → Option CostsFault
 first_fault_after d before [] = None
 first_fault_after d before (line ∷ lines) = or_first (line_fault d before line) (first_fault_after d (link_of_line d line ∷ before) lines)
 
 -- the first thing that is wrong with the cost lines of a text
-abbrev pub first_line_fault : Database → List CostLine → Option PlanFault
+abbrev pub first_line_fault : Database → List CostLine → Option CostsFault
 first_line_fault d lines = first_fault_after d [] lines
 
 -- these costs of the links, but for those that cost lines name: theirs are the lines'
@@ -117,4 +117,4 @@ moves_of by d lines = moves_between by d.database (present_of_links d.asked d.da
 
 -- the rollout from present costs to those of cost lines; in its graph each linked interface has a variable of its own
 abbrev pub rollout_of : StepUnit → Input → List CostLine → Rollout
-rollout_of by d lines = record { graph = graph_by_links d.database; paths = d.problem.paths; moves = moves_of by d lines }
+rollout_of by d lines = record { graph = graph_by_links d.database; requests = d.problem.requests; moves = moves_of by d lines }

@@ -25,9 +25,9 @@ use Rattle.report_writer.specs.declared.rejection.Rejection.{Rejection}
 use Rattle.report_writer.specs.declared.report.Report.{Report}
 use Rattle.report_writer.specs.Reports.{Reports}
 use Rattle.report_writer.specs.Texts.{rejected_line}
-use Rattle.change_commands.specs.declared.fault.PlanFault.{PlanFault}
-use Rattle.change_commands.specs.declared.fault.PlanFault.TheVariants.{NoCosts}
-use Rattle.change_commands.specs.FaultNumbers.{plan_fault_number}
+use Rattle.sections_reader.specs.declared.fault.CostsFault.{CostsFault}
+use Rattle.sections_reader.specs.declared.fault.CostsFault.TheVariants.{NoCosts}
+use Rattle.sections_reader.specs.FaultNumbers.{costs_fault_number}
 use Rattle.change_commands.specs.Plans.{Plan, first_line_fault, moves_of, rollout_of}
 
 -- the number of the first link of a step
@@ -98,8 +98,8 @@ pub record ReportsSteps (nodes : ℕ) (by : StepUnit) (d : Database) (r : Rollou
   pub found : AreStepsFound r nodes steps
   pub reports : Reports (outcome_status steps.outcome) (steps_text by d r.moves steps) report
 
--- The bytes are the text of what was found of the steps, which has this status: those from the present costs to the ones that
--- the text of the plan says.
+-- The bytes are the text of what was found of the steps, which has this status: those from the present costs to the
+-- ones that the text of the plan says.
 pub record ShowsSteps (nodes : ℕ) (by : StepUnit) (plan : Plan) (aim : Status) (bytes : List ℕ) : Type 0 where
   pub lines : List CostLine
   pub said : SaysCosts plan.bytes (Some lines)
@@ -112,16 +112,16 @@ pub record ShowsSteps (nodes : ℕ) (by : StepUnit) (plan : Plan) (aim : Status)
 -- a plan is refused, since its text says that there are no costs
 pub record SaysNoCosts (bytes : List ℕ) (rejection : Rejection) : Type 0 where
   pub said : SaysCosts bytes None
-  pub number : rejection.number ≡ plan_fault_number NoCosts
+  pub number : rejection.number ≡ costs_fault_number NoCosts
   pub place : rejection.place ≡ 0
 
 -- a plan is refused, since a cost line of its text names no linked interface, or that of an earlier line
 pub record HasFaultyLine (plan : Plan) (rejection : Rejection) : Type 0 where
   pub lines : List CostLine
   pub said : SaysCosts plan.bytes (Some lines)
-  pub fault : PlanFault
+  pub fault : CostsFault
   pub first : first_line_fault plan.input.database lines ≡ Some fault
-  pub number : rejection.number ≡ plan_fault_number fault
+  pub number : rejection.number ≡ costs_fault_number fault
   pub place : rejection.place ≡ 0
 
 -- why a plan is refused: its text is off the grammar, says no costs, or has a faulty cost line

@@ -5,7 +5,6 @@
 mod change;
 mod change_text;
 mod changed_lines;
-mod fault;
 mod plan;
 mod step_text;
 mod steps;

@@ -6,22 +6,22 @@ ghost use Rattle.change_commands.specs.Plans.{router_steps, steps_of, with_lines
 ghost use Rattle.change_commands.specs.SeenLinks.{AreSeen};
 ghost use Rattle.cost_base.specs.Lists.{numbers_from};
 
-use crate::fault::PlanFault;
 use change_steps::Moves;
 use command_words::StepUnit;
 use cost_base::{Listed, OutOfMemory, no_marks, push_if};
 use design_problem::CostLine;
+use sections_reader::CostsFault;
 use std::alloc::Global;
 use wanted_paths::Names;
 
 /// Puts a line's cost into the place of its link, and marks that; or tells what is wrong with the line.
-#[tactic(auto, using(crate::proofs::PlanLaws::known_within, crate::proofs::PlanLaws::fault_twice, crate::proofs::PlanLaws::fault_none))]
+#[tactic(auto, using(crate::proofs::PlanLaws::line_faults))]
 fn take_line(
     names: &Names,
     line: &CostLine,
     costs: &mut Vec<u16>,
     seen: &mut Vec<bool>,
-) -> Result<(), PlanFault>
+) -> Result<(), CostsFault>
     requires costs { length costs.old.items ≡ length names.now.links }
     requires seen { length seen.old.items ≡ length names.now.links }
     ensures { (before : List ℕ) → AreSeen before seen.old.items →
@@ -34,11 +34,11 @@ fn take_line(
 {
     let found = names.find_interface(line.router.as_bytes(), line.interface.as_bytes());
     let Some(link) = found else {
-        return Err(PlanFault::NoLink);
+        return Err(CostsFault::NoInterface);
     };
     let place = link as usize;
     if seen[place] {
-        return Err(PlanFault::LineTwice);
+        return Err(CostsFault::LineTwice);
     }
     seen[place] = true;
     costs[place] = line.cost;
@@ -51,7 +51,7 @@ pub(crate) fn wanted_costs(
     names: &Names,
     present: &[u16],
     lines: &[CostLine],
-) -> Result<Result<Vec<u16>, PlanFault>, OutOfMemory>
+) -> Result<Result<Vec<u16>, CostsFault>, OutOfMemory>
     requires { length present.now ≡ length names.now.links }
     ensures { IfOk result (λ wanted. MatchResult wanted (λ costs.
         (first_line_fault names.now lines.now ≡ None) ×
@@ -180,8 +180,8 @@ fn steps_between(
     steps_of(alloc, by, names, moved.as_slice())
 }
 
-/// A law of costs, which takes no time: each has 16 bits.
-fn keep_bits(costs: &[u16])
+/// For the prover alone: keeps that each cost has 16 bits; takes no time and changes nothing.
+fn keeps_bits(costs: &[u16])
     ensures { (k : ℕ) → k < length costs.now → slice_index costs.now k ≤ 65535 }
 {
     let _ = costs;
@@ -201,8 +201,8 @@ pub(crate) fn moves_to(
     requires positive { All (λ cost. 0 < cost) wanted.items }
     ensures { IfOk result (λ moves. moves ≡ moves_between by names.now present.items wanted.items) }
 {
-    keep_bits(present.as_slice());
-    keep_bits(wanted.as_slice());
+    keeps_bits(present.as_slice());
+    keeps_bits(wanted.as_slice());
     let steps = steps_between(alloc, by, names, present.as_slice(), wanted.as_slice())?;
     Ok(Moves {
         present: Listed::from_items(present),

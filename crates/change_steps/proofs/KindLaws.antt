@@ -21,10 +21,10 @@ list_all_has test (y ∷ ys) x all has =
     elim has [ inl same ↦ ap test same ∙ parts.0 | inr later ↦ list_all_has test ys x parts.1 later ]
 
 -- a variable on a held path
-on_held : (r : Rollout) (held : List ℕ) (v i d : ℕ) → i < length held → goes_over r.graph (request_at r.paths (get_or held i d)).path.edges v ≡ true →
+on_held : (r : Rollout) (held : List ℕ) (v i d : ℕ) → i < length held → goes_over r.graph (request_at r.requests (get_or held i d)).path.edges v ≡ true →
     lies_on_held r held v ≡ true
 unfolding lies_on_held
-on_held r held v i d within goes = list_any_at (λ k. goes_over r.graph (request_at r.paths k).path.edges v) held i d within goes
+on_held r held v i d within goes = list_any_at (λ k. goes_over r.graph (request_at r.requests k).path.edges v) held i d within goes
 
 first_test : (a b : Bool) → (if a then First else (if b then Last else Between)) ≡ First → a ≡ true
 first_test true b is = refl

@@ -3,13 +3,14 @@ use Rattle.std.proofs.Common.{◌≡◌, ℕ, zero, suc, ◌+◌, ◌<◌, ◌�
 use Rattle.std.specs.Prelude.{Contains}
 use Rattle.std.proofs.lemmas.Bool.{cases_Bool, cases_eq, both_ways}
 use Rattle.std.proofs.lemmas.List.{get_or_default, take_more}
+use Rattle.cost_base.specs.Marks.{is_marked, is_one_of}
+use Rattle.cost_base.proofs.MarkLaws.{has_one_of}
 use Rattle.change_steps.specs.declared.kinds.Kind.{Kind}
 use Rattle.change_steps.specs.declared.kinds.Kind.TheVariants.{First, Between, Last}
 use Rattle.change_steps.specs.Rollouts.{IsRollout, Rollout, step_count}
-use Rattle.change_steps.specs.Orders.{IsSafe, IsSafeOrder, is_one_of}
+use Rattle.change_steps.specs.Orders.{IsSafe, IsSafeOrder}
 use Rattle.change_steps.specs.Kinds.{comes_first, kind_of_step}
-use Rattle.change_steps.specs.States.{AreAllReached, MayFollow, first_state, is_done_in, marks_of}
-use Rattle.change_steps.proofs.StateCosts.{has_one_of}
+use Rattle.change_steps.specs.States.{AreAllReached, MayFollow, first_state, marks_of}
 use Rattle.change_steps.proofs.KindLaws.{eased_safe}
 use Rattle.change_steps.proofs.MarkLaws.{marks_agree, marks_at, marks_more, marks_safe, one_of_last, one_of_other}
 use Rattle.change_steps.proofs.OrderLaws.{has_contains}
@@ -99,7 +100,7 @@ core_tested r held order tested is begin all safe (suc n) within =
               follows = record {
                 known = known;
                 between = between;
-                left = ap (λ (marks : List Bool). is_done_in marks k) at ∙ marks_at r (core r held steps) k known
+                left = ap (λ (marks : List Bool). is_marked marks k) at ∙ marks_at r (core r held steps) k known
                     ∙ ap (λ (kind : Kind). done_by kind (is_one_of steps k)) between ∙ new;
               };
               same = sym (ap (λ (marks : List Bool). set marks k true) at ∙ more);
@@ -116,7 +117,7 @@ core_tested r held order tested is begin all safe (suc n) within =
 -- where each safe one of the tested states lacks a step between, no order is safe
 pub no_order : (r : Rollout) (held : List ℕ) (tested : List (List Bool)) → IsRollout r → Contains tested (first_state r held) →
     AreAllReached r held tested →
-    ((i : ℕ) → i < length tested → IsSafe r held (is_done_in (get_or tested i [])) → (k : ℕ) × MayFollow r held (get_or tested i []) k) →
+    ((i : ℕ) → i < length tested → IsSafe r held (is_marked (get_or tested i [])) → (k : ℕ) × MayFollow r held (get_or tested i []) k) →
     (order : List ℕ) → IsSafeOrder r held order → ⊥
 no_order r held tested is begin all lacking order safe =
     let whole : take (length order) order ≡ order = take_all (length order) order (omega arith) in
@@ -127,5 +128,5 @@ no_order r held tested is begin all lacking order safe =
     let lacks = lacking here.0 here.1 (marks_safe r held (core r held order) (get_or tested here.0 []) at (core_safe r held order is order_safe)) in
     both_ways (is_one_of order lacks.0)
     (sym (ap (λ (kind : Kind). done_by kind (is_one_of order lacks.0)) lacks.1.between)
-    ∙ sym (marks_at r (core r held order) lacks.0 lacks.1.known) ∙ ap (λ (marks : List Bool). is_done_in marks lacks.0) (sym at) ∙ lacks.1.left)
+    ∙ sym (marks_at r (core r held order) lacks.0 lacks.1.known) ∙ ap (λ (marks : List Bool). is_marked marks lacks.0) (sym at) ∙ lacks.1.left)
     (has_one_of order lacks.0 (has_contains order lacks.0 (safe.all lacks.0 lacks.1.known)))

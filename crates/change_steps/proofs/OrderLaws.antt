@@ -1,19 +1,21 @@
--- Safe lines and orders: they begin, grow and end; and where no state that can be reached has all steps between, no order is safe.
+-- Safe lines and orders: they begin, grow and end; and where no state that can be reached has all steps between, no
+-- order is safe.
 use Rattle.std.proofs.Common.{◌≡◌, ◌≢◌, ℕ, zero, suc, ◌+◌, ◌<◌, ◌≤◌, refl, sym, ◌∙◌, ap, subst, List, [], ◌∷◌, ◌++◌, length, get_or, take, inl, inr, ◌⊎◌, arith, All, Bool, true, false, cond, filter}
 use Rattle.std.specs.Prelude.{Contains}
 use Rattle.std.proofs.lemmas.Bool.{cases_Bool, cases_eq, cases_lt, both_ways, false≢true}
 use Rattle.std.proofs.lemmas.List.{take-append-le, take_all, length-append}
 use Rattle.std.proofs.lemmas.List.Elements.{All-append, All-push, Contains-append_left, Contains-append_right}
 use Rattle.cost_base.specs.Lists.{Has, Lacks, NoneTwice, numbers_from}
-use Rattle.cost_base.proofs.ListLemmas.{All-left, all_kept, none_twice_push}
+use Rattle.cost_base.proofs.ListLemmas.{All-left, all_kept, none_twice_push, taken_has, lacks_first, has_lacks, all_has}
+use Rattle.cost_base.specs.Marks.{is_one_of}
+use Rattle.cost_base.proofs.MarkLaws.{has_one_of, one_of_has}
 use Rattle.change_steps.specs.declared.kinds.Kind.{Kind}
 use Rattle.change_steps.specs.declared.kinds.Kind.TheVariants.{First, Between, Last}
 use Rattle.change_steps.specs.Rollouts.{IsRollout, Rollout, step_count}
-use Rattle.change_steps.specs.Orders.{AreHeld, IsSafe, IsSafeLine, IsSafeOrder, all_done, is_one_of, none_done}
+use Rattle.change_steps.specs.Orders.{AreHeld, IsSafe, IsSafeLine, IsSafeOrder, all_done, none_done}
 use Rattle.change_steps.specs.Kinds.{comes_first, comes_last, first_steps, kind_of_step}
 use Rattle.change_steps.specs.States.{first_state, marks_of}
-use Rattle.change_steps.proofs.Keeping.{has_lacks, known_if, lacks_unless}
-use Rattle.change_steps.proofs.StateCosts.{has_one_of, one_of_has}
+use Rattle.change_steps.proofs.Keeping.{lacks_unless}
 use Rattle.change_steps.proofs.KindLaws.{eased_safe}
 use Rattle.change_steps.proofs.MarkLaws.{marks_agree}
 
@@ -47,14 +49,14 @@ kept_once p a zero = tt
 kept_once p a (suc n) =
     once_cond (p a) a (filter p (numbers_from (a + 1) n))
     (lacks_unless (filter p (numbers_from (a + 1) n)) a (λ has.
-    let near = known_if (λ k. (a + 1 ≤ k) × (k < a + 1 + n) × (p k ≡ true)) (filter p (numbers_from (a + 1) n)) a (kept_known p (a + 1) n) has in
+    let near = all_has (λ k. (a + 1 ≤ k) × (k < a + 1 + n) × (p k ≡ true)) (filter p (numbers_from (a + 1) n)) a (kept_known p (a + 1) n) has in
     let above = near.0 in absurd (omega (arith, above))))
     (kept_once p (a + 1) n)
 
 -- a step is one of those that pass exactly where it passes
 pub that_passes : (r : Rollout) (p : ℕ → Bool) (k : ℕ) → is_one_of (steps_that r p) k ≡ true → (k < step_count r) × (p k ≡ true)
 that_passes r p k is =
-    let near = known_if (λ i. (0 ≤ i) × (i < 0 + step_count r) × (p i ≡ true)) (steps_that r p) k (kept_known p 0 (step_count r))
+    let near = all_has (λ i. (0 ≤ i) × (i < 0 + step_count r) × (p i ≡ true)) (steps_that r p) k (kept_known p 0 (step_count r))
     (one_of_has (steps_that r p) k is) in
     let below = near.1 in
     (omega (arith, below), near.2)
@@ -67,12 +69,6 @@ that_known r p = λ i d within. let near = kept_known p 0 (step_count r) i d wit
 
 pub that_once : (r : Rollout) (p : ℕ → Bool) → NoneTwice (steps_that r p)
 that_once r p = kept_once p 0 (step_count r)
-
--- a list has what each of its beginnings has
-taken_has : (n : ℕ) (xs : List ℕ) (x : ℕ) → Has (take n xs) x → Has xs x
-taken_has zero xs x has = absurd has
-taken_has (suc n) [] x has = absurd has
-taken_has (suc n) (y ∷ ys) x has = elim has [ inl same ↦ inl same | inr later ↦ inr (taken_has n ys x later) ]
 
 pub taken_one_of : (n : ℕ) (xs : List ℕ) (x : ℕ) → is_one_of (take n xs) x ≡ true → is_one_of xs x ≡ true
 taken_one_of n xs x is = has_one_of xs x (taken_has n xs x (one_of_has (take n xs) x is))
@@ -94,13 +90,9 @@ once_append (x ∷ xs) ys mine theirs apart = (
   once_append xs ys mine.1 theirs (λ y has there. apart y (inr has) there),
 )
 
-lacks_left : (xs ys : List ℕ) (x : ℕ) → Lacks (xs ++ ys) x → Lacks xs x
-lacks_left [] ys x lacks = tt
-lacks_left (y ∷ xs) ys x lacks = (lacks.0, lacks_left xs ys x lacks.1)
-
 once_left : (xs ys : List ℕ) → NoneTwice (xs ++ ys) → NoneTwice xs
 once_left [] ys once = tt
-once_left (x ∷ xs) ys once = (lacks_left xs ys x once.0, once_left xs ys once.1)
+once_left (x ∷ xs) ys once = (lacks_first xs ys x once.0, once_left xs ys once.1)
 
 pub contains_has : (xs : List ℕ) (x : ℕ) → Has xs x → Contains xs x
 contains_has [] x has = absurd has

@@ -38,12 +38,10 @@ passing_yes p i passes = passing p i ∙ ap (λ (b : Bool). filter p (numbers_fr
 pub passing_no : (p : ℕ → Bool) (i : ℕ) → p i ≡ false → filter p (numbers_from 0 (i + 1)) ≡ filter p (numbers_from 0 i)
 passing_no p i fails = passing p i ∙ ap (λ (b : Bool). filter p (numbers_from 0 i) ++ cond b (i ∷ []) []) fails ∙ append-nil (filter p (numbers_from 0 i))
 
-pub kept_push : (old xs new : List ℕ) (p : ℕ → Bool) (i : ℕ) → p i ≡ true → xs ≡ old ++ filter p (numbers_from 0 i) → new ≡ xs ++ i ∷ [] →
-    new ≡ old ++ filter p (numbers_from 0 (i + 1))
-kept_push old xs new p i passes so_far more =
+-- one step more, put behind those that pass, where it passes
+pub kept_more : (old xs new : List ℕ) (p : ℕ → Bool) (i : ℕ) (test : Bool) → p i ≡ test → xs ≡ old ++ filter p (numbers_from 0 i) →
+    new ≡ cond test (xs ++ i ∷ []) xs → new ≡ old ++ filter p (numbers_from 0 (i + 1))
+kept_more old xs new p i true passes so_far more =
     more ∙ ap (λ (ys : List ℕ). ys ++ i ∷ []) so_far ∙ append_assoc old (filter p (numbers_from 0 i)) (i ∷ [])
     ∙ ap (λ (ys : List ℕ). old ++ ys) (sym (passing_yes p i passes))
-
-pub kept_same : (old xs new : List ℕ) (p : ℕ → Bool) (i : ℕ) → p i ≡ false → xs ≡ old ++ filter p (numbers_from 0 i) → new ≡ xs →
-    new ≡ old ++ filter p (numbers_from 0 (i + 1))
-kept_same old xs new p i fails so_far same = same ∙ so_far ∙ ap (λ (ys : List ℕ). old ++ ys) (sym (passing_no p i fails))
+kept_more old xs new p i false fails so_far same = same ∙ so_far ∙ ap (λ (ys : List ℕ). old ++ ys) (sym (passing_no p i fails))

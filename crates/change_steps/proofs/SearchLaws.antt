@@ -5,11 +5,12 @@ use Rattle.std.proofs.lemmas.Bool.{cases_lt}
 use Rattle.std.proofs.lemmas.List.{get_or_at, get_or_append_left, get_or_default, length-append, length_push, take-append-le, take_all, take_at}
 use Rattle.std.proofs.lemmas.List.Elements.{All-nil, All-push, Contains-append_left, Contains-get_or, Contains-push, Contains-push_cases}
 use Rattle.cost_base.proofs.ListLemmas.{All-left}
+use Rattle.cost_base.specs.Marks.{is_marked, is_one_of}
 use Rattle.change_steps.specs.declared.kinds.Kind.TheVariants.{Between}
 use Rattle.change_steps.specs.Rollouts.{IsRollout, step_count}
-use Rattle.change_steps.specs.Orders.{AreHeld, IsSafe, IsSafeLine, is_one_of}
+use Rattle.change_steps.specs.Orders.{AreHeld, IsSafe, IsSafeLine}
 use Rattle.change_steps.specs.Kinds.{first_steps, kind_of_step}
-use Rattle.change_steps.specs.States.{AreAllReached, AreTested, IsAnotherReached, IsReached, MayFollow, is_done_in, marks_of}
+use Rattle.change_steps.specs.States.{AreAllReached, AreTested, IsAnotherReached, IsReached, MayFollow, marks_of}
 use Rattle.change_steps.specs.Outcomes.{IsGreatest, done_count}
 use Rattle.change_steps.specs.Search.{AllLack, HeldRollout, IsExplored, IsNewStep, IsOnWay, IsSearch, Position, order_behind_first, longer_of, way_state}
 use Rattle.change_steps.proofs.MarkLaws.{done_count_of, marks_at, marks_push, marks_safe, safe_marks}
@@ -57,13 +58,13 @@ tested_push p tested marks are reached new = record {
 
 -- from a tested safe state, by a step that may follow
 reached_by : (p : HeldRollout) (tested : List (List Bool)) (marks : List Bool) (step : ℕ) → Contains tested marks →
-    IsSafe p.rollout p.held (is_done_in marks) → MayFollow p.rollout p.held marks step → IsReached p.rollout p.held tested (set marks step true)
+    IsSafe p.rollout p.held (is_marked marks) → MayFollow p.rollout p.held marks step → IsReached p.rollout p.held tested (set marks step true)
 reached_by p tested marks step here safe follows =
     let at : get_or tested here.0 [] ≡ marks = get_or_default tested here.0 [] marks here.1 ∙ here.2 in
     record {
       from = here.0;
       within = here.1;
-      safe = subst (λ (m : List Bool). IsSafe p.rollout p.held (is_done_in m)) (sym at) safe;
+      safe = subst (λ (m : List Bool). IsSafe p.rollout p.held (is_marked m)) (sym at) safe;
       step = step;
       follows = subst (λ (m : List Bool). MayFollow p.rollout p.held m step) (sym at) follows;
       same = sym (ap (λ (m : List Bool). set m step true) at);
@@ -83,7 +84,7 @@ explored_more p tested marks k explored here = λ i below follows. elim (cases_l
 -- The way.
 
 -- where the search stands
-pub top_safe : (p : HeldRollout) (s : Position) → IsSearch p s → IsSafe p.rollout p.held (is_done_in (way_state p s.order))
+pub top_safe : (p : HeldRollout) (s : Position) → IsSearch p s → IsSafe p.rollout p.held (is_marked (way_state p s.order))
 top_safe p s is =
     marks_safe p.rollout p.held (is_one_of (order_behind_first p s.order)) (way_state p s.order) refl
     (subst (λ (xs : List ℕ). IsSafe p.rollout p.held (is_one_of xs))
@@ -205,7 +206,7 @@ push_are p s step is new =
 
 -- the greatest state stays where none is greater
 greatest_stays : (p : HeldRollout) (tested : List (List Bool)) (marks : List Bool) (done : List ℕ) → IsGreatest p.rollout p.held tested done →
-    (IsSafe p.rollout p.held (is_done_in marks) → done_count marks ≤ length done) → IsGreatest p.rollout p.held (tested ++ marks ∷ []) done
+    (IsSafe p.rollout p.held (is_marked marks) → done_count marks ≤ length done) → IsGreatest p.rollout p.held (tested ++ marks ∷ []) done
 greatest_stays p tested marks done is less = record {
   line = is.line;
   rest = is.rest;
@@ -216,35 +217,35 @@ greatest_stays p tested marks done is less = record {
   same = get_or_append_left tested (marks ∷ []) [] is.place is.within ∙ is.same;
   greatest = λ i within safe. elim (cases_lt i (length tested)) [
     | inl before ↦ subst (λ (m : List Bool). done_count m ≤ length done) (sym (get_or_append_left tested (marks ∷ []) [] i before))
-        (is.greatest i before (subst (λ (m : List Bool). IsSafe p.rollout p.held (is_done_in m)) (get_or_append_left tested (marks ∷ []) [] i before) safe))
+        (is.greatest i before (subst (λ (m : List Bool). IsSafe p.rollout p.held (is_marked m)) (get_or_append_left tested (marks ∷ []) [] i before) safe))
     | inr behind ↦
         let last : get_or (tested ++ marks ∷ []) i [] ≡ marks =
         get_or_at tested marks [] [] i (let count = length_push tested marks in omega (arith, count, within, behind)) in
         subst (λ (m : List Bool). done_count m ≤ length done) (sym last)
-        (less (subst (λ (m : List Bool). IsSafe p.rollout p.held (is_done_in m)) last safe))
+        (less (subst (λ (m : List Bool). IsSafe p.rollout p.held (is_marked m)) last safe))
   ];
   earliest = λ i before safe.
       let near : i < length tested = let within = is.within in omega (arith, before, within) in
       subst (λ (m : List Bool). done_count m < length done) (sym (get_or_append_left tested (marks ∷ []) [] i near))
-      (is.earliest i before (subst (λ (m : List Bool). IsSafe p.rollout p.held (is_done_in m)) (get_or_append_left tested (marks ∷ []) [] i near) safe));
+      (is.earliest i before (subst (λ (m : List Bool). IsSafe p.rollout p.held (is_marked m)) (get_or_append_left tested (marks ∷ []) [] i near) safe));
 }
 
 -- what was finished stays so, and the new state isn't safe or is on the way
 finished_push : (p : HeldRollout) (tested : List (List Bool)) (new : List Bool) (order : List ℕ) →
-    ((marks : List Bool) → Contains tested marks → IsSafe p.rollout p.held (is_done_in marks) → IsOnWay p order marks ⊎ IsExplored p tested marks (step_count p.rollout)) →
-    (IsSafe p.rollout p.held (is_done_in new) → IsOnWay p order new) → (marks : List Bool) → Contains (tested ++ new ∷ []) marks →
-    IsSafe p.rollout p.held (is_done_in marks) → IsOnWay p order marks ⊎ IsExplored p (tested ++ new ∷ []) marks (step_count p.rollout)
+    ((marks : List Bool) → Contains tested marks → IsSafe p.rollout p.held (is_marked marks) → IsOnWay p order marks ⊎ IsExplored p tested marks (step_count p.rollout)) →
+    (IsSafe p.rollout p.held (is_marked new) → IsOnWay p order new) → (marks : List Bool) → Contains (tested ++ new ∷ []) marks →
+    IsSafe p.rollout p.held (is_marked marks) → IsOnWay p order marks ⊎ IsExplored p (tested ++ new ∷ []) marks (step_count p.rollout)
 finished_push p tested new order finished here marks has safe = elim (Contains-push_cases tested new marks has) [
   | inl before ↦ elim (finished marks before safe) [
     | inl on ↦ inl on
     | inr all ↦ inr (explored_push p tested new marks (step_count p.rollout) all)
   ]
-  | inr same ↦ inl (subst (IsOnWay p order) same (here (subst (λ (m : List Bool). IsSafe p.rollout p.held (is_done_in m)) (sym same) safe)))
+  | inr same ↦ inl (subst (IsOnWay p order) same (here (subst (λ (m : List Bool). IsSafe p.rollout p.held (is_marked m)) (sym same) safe)))
 ]
 
 -- a state that isn't safe
 pub search_fails : (p : HeldRollout) (s : Position) (step : ℕ) → IsSearch p s → s.next ≡ step → IsNewStep p s.tested (way_state p s.order) step →
-    (IsSafe p.rollout p.held (is_done_in (set (way_state p s.order) step true)) → ⊥) →
+    (IsSafe p.rollout p.held (is_marked (set (way_state p s.order) step true)) → ⊥) →
     IsSearch p (record { order = s.order; next = step + 1; tested = s.tested ++ set (way_state p s.order) step true ∷ []; greatest = s.greatest })
 search_fails p s step is at new unsafe = search_moves p (record { order = s.order; next = s.next; tested = tested; greatest = s.greatest }) (step + 1)
     (record {
@@ -272,7 +273,7 @@ record Entered (p : HeldRollout) (s : Position) (step : ℕ) : Type 0 where
   way : set (way_state p s.order) step true ≡ way_state p (s.order ++ step ∷ [])
 
 entered : (p : HeldRollout) (s : Position) (step : ℕ) → IsSearch p s → IsNewStep p s.tested (way_state p s.order) step →
-    IsSafe p.rollout p.held (is_done_in (set (way_state p s.order) step true)) → Entered p s step
+    IsSafe p.rollout p.held (is_marked (set (way_state p s.order) step true)) → Entered p s step
 entered p s step is new safe = record {
   line = subst (λ (xs : List ℕ). IsSafeLine p.rollout p.held xs) (sym (line_push_is p s.order step))
       (line_push p.rollout p.held (order_behind_first p s.order) step is.line new.follows.known (step_new p s.order step new.follows)
@@ -315,11 +316,11 @@ greatest_enters p s step true compared is new enters = record {
     marks : List Bool
     marks = set (way_state p s.order) step true
 
-    fewer : (i : ℕ) → i < length s.tested → IsSafe p.rollout p.held (is_done_in (get_or (s.tested ++ set (way_state p s.order) step true ∷ []) i [])) →
+    fewer : (i : ℕ) → i < length s.tested → IsSafe p.rollout p.held (is_marked (get_or (s.tested ++ set (way_state p s.order) step true ∷ []) i [])) →
         done_count (get_or (s.tested ++ set (way_state p s.order) step true ∷ []) i []) < length (order_behind_first p (s.order ++ step ∷ []))
     fewer i before safe =
         let at = get_or_append_left s.tested (set (way_state p s.order) step true ∷ []) [] i before in
-        let was = is.most.greatest i before (subst (λ (m : List Bool). IsSafe p.rollout p.held (is_done_in m)) at safe) in
+        let was = is.most.greatest i before (subst (λ (m : List Bool). IsSafe p.rollout p.held (is_marked m)) at safe) in
         let same = ap done_count at in
         let less = ltb-true (length s.greatest) (length (s.order ++ step ∷ [])) (sym compared) in
         let mine = length-append (first_steps p.rollout p.held) (s.order ++ step ∷ []) in
@@ -327,7 +328,7 @@ greatest_enters p s step true compared is new enters = record {
         omega (arith, was, same, less, mine, theirs)
 
 pub search_enters : (p : HeldRollout) (s : Position) (step : ℕ) → IsSearch p s → s.next ≡ step → IsNewStep p s.tested (way_state p s.order) step →
-    IsSafe p.rollout p.held (is_done_in (set (way_state p s.order) step true)) →
+    IsSafe p.rollout p.held (is_marked (set (way_state p s.order) step true)) →
     IsSearch p (record {
       order = s.order ++ step ∷ [];
       next = 0;
@@ -460,9 +461,9 @@ another_reached p s step is new = record {
 
 -- what each tested safe state lacks stays, and a new one lacks something too where it is safe
 pub lack_push : (p : HeldRollout) (tested : List (List Bool)) (marks : List Bool) → AllLack p tested →
-    (IsSafe p.rollout p.held (is_done_in marks) → (k : ℕ) × MayFollow p.rollout p.held marks k) → AllLack p (tested ++ marks ∷ [])
+    (IsSafe p.rollout p.held (is_marked marks) → (k : ℕ) × MayFollow p.rollout p.held marks k) → AllLack p (tested ++ marks ∷ [])
 lack_push p tested marks lack here = λ m has safe. elim (Contains-push_cases tested marks m has) [
   | inl before ↦ lack m before safe
   | inr same ↦ subst (λ (n : List Bool). (k : ℕ) × MayFollow p.rollout p.held n k) same
-      (here (subst (λ (n : List Bool). IsSafe p.rollout p.held (is_done_in n)) (sym same) safe))
+      (here (subst (λ (n : List Bool). IsSafe p.rollout p.held (is_marked n)) (sym same) safe))
 ]

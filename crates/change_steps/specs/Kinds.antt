@@ -19,7 +19,7 @@ goes_over g es v = list_any (λ e. is_var v (edge_at g e).price) es
 
 -- the variable lies on a held path
 unfoldable pub lies_on_held : Rollout → List ℕ → ℕ → Bool
-lies_on_held r held v = list_any (λ k. goes_over r.graph (request_at r.paths k).path.edges v) held
+lies_on_held r held v = list_any (λ k. goes_over r.graph (request_at r.requests k).path.edges v) held
 
 -- the line rises, off the held paths
 abbrev pub rises_off_held : Rollout → List ℕ → ℕ → Bool

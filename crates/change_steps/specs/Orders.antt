@@ -1,15 +1,12 @@
 -- States of a rollout, the paths that it has to hold, and safe orders of its steps.
-use Rattle.std.specs.Prelude.{ℕ, ◌<◌, ◌≤◌, ◌==◌, ◌&&◌, Bool, true, false, cond, List, length, map, take, slice_index, All, Contains}
+use Rattle.std.specs.Prelude.{ℕ, ◌<◌, ◌≤◌, ◌&&◌, Bool, true, false, cond, List, length, map, take, slice_index, All, Contains}
 use Rattle.std.specs.List.{list_any}
 use Rattle.std.specs.List.Sorted.{IsStrictlyIncreasing}
 use Rattle.cost_base.specs.Lists.{NoneTwice, numbers_from}
+use Rattle.cost_base.specs.Marks.{is_one_of}
 use Rattle.area_graph.specs.Costs.{IsOnlyCheapest, at_costs}
 use Rattle.design_problem.specs.Problems.{request_at, request_ends}
 use Rattle.change_steps.specs.Rollouts.{CostMoves, Rollout, lines_of_step, step_count}
-
--- whether the number is one of these
-abbrev pub is_one_of : List ℕ → ℕ → Bool
-is_one_of xs x = list_any (λ y. y == x) xs
 
 -- A state says of each step whether it is done.
 
@@ -36,15 +33,15 @@ costs_in m done = map (cost_in m done) (numbers_from 0 (length m.present))
 -- in that state the path of a request is the only cheapest among all its simple paths
 abbrev pub IsOnlyIn : Rollout → (ℕ → Bool) → ℕ → Type 0
 IsOnlyIn r done k =
-    IsOnlyCheapest r.graph (at_costs (costs_in r.moves done)) (request_ends (request_at r.paths k)) (request_at r.paths k).path.edges
+    IsOnlyCheapest r.graph (at_costs (costs_in r.moves done)) (request_ends (request_at r.requests k)) (request_at r.requests k).path.edges
 
 -- held: the numbers, rising, of the paths that are the only cheapest both at present and after all steps
 pub record AreHeld (r : Rollout) (held : List ℕ) : Type 0 where
   pub rising : IsStrictlyIncreasing held
-  pub known : All (λ k. k < length r.paths) held
+  pub known : All (λ k. k < length r.requests) held
   pub present : All (IsOnlyIn r none_done) held
   pub wanted : All (IsOnlyIn r all_done) held
-  pub each : (k : ℕ) → k < length r.paths → IsOnlyIn r none_done k → IsOnlyIn r all_done k → Contains held k
+  pub each : (k : ℕ) → k < length r.requests → IsOnlyIn r none_done k → IsOnlyIn r all_done k → Contains held k
 
 -- a state is safe where each held path is the only cheapest
 abbrev pub IsSafe : Rollout → List ℕ → (ℕ → Bool) → Type 0

@@ -1,19 +1,20 @@
 //! What a search that ended found.
 ghost use Rattle.std.specs.Prelude.{◌≡◌, ◌++◌, ◌<◌, ℕ, Contains, IfOk, false, slice_set, true};
+ghost use Rattle.cost_base.specs.Marks.{is_marked};
 ghost use Rattle.spf_ties.specs.Distances.{IsRoomFor};
 ghost use Rattle.change_steps.specs.Rollouts.{step_count};
 ghost use Rattle.change_steps.specs.Orders.{IsSafe};
-ghost use Rattle.change_steps.specs.States.{MayFollow, is_done_in};
+ghost use Rattle.change_steps.specs.States.{MayFollow};
 ghost use Rattle.change_steps.specs.Outcomes.{IsBarrier, IsOutcome, IsSearchEnd};
 ghost use Rattle.change_steps.specs.Search.{AreBlockedIn, IsStateOf, IsStepBlocked, last_steps, order_behind_first as way_of};
 ghost use Rattle.change_steps.specs.Walks.{IsWalkEnded, IsSearchWalk};
 
 use crate::found::{Barrier, Blocked, Outcome, Stuck};
+use crate::held_rollout::Plan;
 use crate::kinds::Kind;
-use crate::plan::Plan;
 use crate::state::State;
+use crate::state_search::{End, Walk};
 use crate::tested::Tested;
-use crate::walk::{End, Walk};
 use cost_base::OutOfMemory;
 use spf_ties::Room;
 use std::alloc::Global;
@@ -43,7 +44,7 @@ fn barrier_of(plan: &Plan, tested: &Tested, room: &mut Room, state: &State) -> B
     requires room { IsRoomFor plan.now.rollout.graph room.old }
     requires state { IsStateOf plan.now.rollout state.now }
     requires unsafe_then { Contains tested.now state.now.done.items →
-        IsSafe plan.now.rollout plan.now.held (is_done_in state.now.done.items) → ⊥ }
+        IsSafe plan.now.rollout plan.now.held (is_marked state.now.done.items) → ⊥ }
     ensures room { IsRoomFor plan.now.rollout.graph room.new }
     ensures barrier { IsBarrier plan.now.rollout plan.now.held tested.now state.now.done.items
         result }
@@ -73,7 +74,7 @@ fn blocked_by(
     requires follows { MayFollow plan.now.rollout plan.now.held state.old.done.items step }
     requires greatest { Contains tested.now (slice_set state.old.done.items step true) →
         IsSafe plan.now.rollout plan.now.held
-        (is_done_in (slice_set state.old.done.items step true)) → ⊥ }
+        (is_marked (slice_set state.old.done.items step true)) → ⊥ }
 
     // Room and state go together as before, with the same steps done.
     ensures room { IsRoomFor plan.now.rollout.graph room.new }
@@ -102,7 +103,7 @@ fn blocked_in(
     requires greatest { (step : ℕ) → MayFollow plan.now.rollout plan.now.held state.old.done.items
         step → Contains tested.now (slice_set state.old.done.items step true) →
         IsSafe plan.now.rollout plan.now.held
-        (is_done_in (slice_set state.old.done.items step true)) → ⊥ }
+        (is_marked (slice_set state.old.done.items step true)) → ⊥ }
     ensures room { IsRoomFor plan.now.rollout.graph room.new }
     ensures blocked { IfOk result (λ blocked. AreBlockedIn plan.now tested.now state.old.done.items
         blocked.items) }

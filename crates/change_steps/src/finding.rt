@@ -8,10 +8,10 @@ ghost use Rattle.change_steps.specs.Walks.{IsBegun};
 
 use crate::ending::outcome_of;
 use crate::found::{Outcome, Steps};
+use crate::held_rollout::Plan;
 use crate::moves::Moves;
-use crate::plan::Plan;
 use crate::rollout::Rollout;
-use crate::walk::Walk;
+use crate::state_search::Walk;
 use area_graph::Graph;
 use cost_base::OutOfMemory;
 use design_problem::Request;
@@ -54,17 +54,21 @@ fn outcome_by(alloc: Global, plan: &Plan, room: Room, nodes: u32) -> Result<Outc
 pub fn find_steps(
     alloc: Global,
     graph: &Graph,
-    paths: &[Request],
+    requests: &[Request],
     moves: &Moves,
     nodes: u32,
 ) -> Result<Steps, OutOfMemory>
     requires priced { All (λ edge. IsPriced (length moves.now.present) edge.price) graph.now.edges }
-    requires paths { ArePathsOf graph.now paths.now }
-    requires few { length paths.now ≤ 10000 }
-    ensures { IfOk result
-        (AreStepsFound (record { graph = graph.now; paths = paths.now; moves = moves.now }) nodes) }
+    requires requests { ArePathsOf graph.now requests.now }
+    requires few { length requests.now ≤ 10000 }
+    ensures { IfOk result (AreStepsFound (record {
+      graph = graph.now;
+      requests = requests.now;
+      moves
+          = moves.now;
+    }) nodes) }
 {
-    let rollout = Rollout::new(graph, paths, moves);
+    let rollout = Rollout::new(graph, requests, moves);
     let mut room = Room::new(alloc, graph)?;
     let plan = Plan::new(alloc, rollout, &mut room)?;
     let outcome = outcome_by(alloc, &plan, room, nodes)?;

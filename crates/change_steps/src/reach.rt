@@ -1,10 +1,10 @@
 //! What rivals cost at least that go over the links of a step.
 ghost use Rattle.std.specs.Prelude.{◌≡◌, ◌++◌, ◌∷◌, ◌<◌, ◌≤◌, ◌^◌, ℕ, [], All, IfOk, IsTrue, OnOk, Some, length, map, slice_index_or};
 ghost use Rattle.cost_base.specs.Lists.{numbers_from};
+ghost use Rattle.cost_base.specs.Marks.{is_marked};
 ghost use Rattle.area_graph.specs.Costs.{FitsPoint, IsPriced, at_costs};
 ghost use Rattle.spf_ties.specs.Distances.{IsRoomFor};
 ghost use Rattle.change_steps.specs.Rollouts.{step_count};
-ghost use Rattle.change_steps.specs.States.{is_done_in};
 ghost use Rattle.change_steps.specs.Search.{IsStateOf};
 ghost use Rattle.change_steps.specs.Reaches.{AreLeastToEach, AreDearerOver, AreLeastTo, IsHarmless, IsReach, least_from_to, edges_of_step, has_price, least_cost, least_costs, price_rises};
 
@@ -12,7 +12,7 @@ use crate::kinds::{Kind, is_kind, line_rises};
 use crate::rollout::Rollout;
 use crate::state::State;
 use area_graph::{FAR, Graph, Point, Price, edge_of, path_cost, price_of};
-use cost_base::{Listed, OutOfMemory, no_marks};
+use cost_base::{Listed, OutOfMemory, mark_within, no_marks, push_if};
 use spf_ties::Room;
 use std::alloc::Global;
 
@@ -45,9 +45,8 @@ fn edges_of_step(alloc: Global, rollout: &Rollout, step: usize) -> Result<Vec<u3
     let lines = rollout.lines(step);
     let mut edges = Vec::new(alloc);
     for number in 0..rollout.edge_count() {
-        if has_price(lines, edge_of(rollout.graph(), number).price) {
-            edges.push(number)?;
-        }
+        let edge = edge_of(rollout.graph(), number);
+        push_if(&mut edges, number, has_price(lines, edge.price))?;
     }
     Ok(edges)
 }
@@ -111,33 +110,24 @@ fn least_to(
     Ok(least)
 }
 
-/// Marks a vertex, if it is one of those that have marks.
-fn mark(marks: &mut Vec<bool>, vertex: u32)
-    ensures { length marks.new.items ≡ length marks.old.items }
-{
-    if (vertex as usize) < marks.len() {
-        marks[vertex as usize] = true;
-    }
-}
-
 /// Marks the vertices that some edges leave.
 fn mark_starts(marks: &mut Vec<bool>, graph: &Graph, edges: &[u32])
     ensures { length marks.new.items ≡ length marks.old.items }
 {
     for number in edges {
         if let Some(edge) = graph.edges().get(*number as usize) {
-            mark(marks, edge.from);
+            mark_within(marks, edge.from as usize);
         }
     }
 }
 
 /// Marks the ends of the held paths.
 fn mark_ends(marks: &mut Vec<bool>, rollout: &Rollout, held: &[u32])
-    requires { All (λ k. k < length rollout.now.paths) held.now }
+    requires { All (λ k. k < length rollout.now.requests) held.now }
     ensures { length marks.new.items ≡ length marks.old.items }
 {
     for number in held {
-        mark(marks, rollout.request(*number).end);
+        mark_within(marks, rollout.request(*number).end as usize);
     }
 }
 
@@ -186,7 +176,7 @@ fn mark_asked(
     kinds: &[Kind],
     edges: &[Listed<u32>],
 ) -> Result<Vec<bool>, OutOfMemory>
-    requires { All (λ k. k < length rollout.now.paths) held.now }
+    requires { All (λ k. k < length rollout.now.requests) held.now }
     ensures { IfOk result (λ asked. length asked.items ≡ length rollout.now.graph.vertices) }
 {
     let graph = rollout.graph();
@@ -285,7 +275,7 @@ impl Reach {
         room: &mut Room,
     ) -> Result<Reach, OutOfMemory>
         requires room { IsRoomFor rollout.now.graph room.old }
-        requires held { All (λ k. k < length rollout.now.paths) held.now }
+        requires held { All (λ k. k < length rollout.now.requests) held.now }
         ensures room { IsRoomFor rollout.now.graph room.new }
         ensures reach { IfOk result (IsReach rollout.now) }
     {
@@ -342,9 +332,9 @@ impl Reach {
     fn are_dearer_over(&self, rollout: &Rollout, state: &State, number: u32, edge: u32) -> bool
         requires reach { IsReach rollout.now self.now }
         requires state { IsStateOf rollout.now state.now }
-        requires number { number < length rollout.now.paths }
+        requires number { number < length rollout.now.requests }
         requires edge { edge < length rollout.now.graph.edges }
-        ensures { IsTrue result → AreDearerOver rollout.now (is_done_in state.now.done.items) number
+        ensures { IsTrue result → AreDearerOver rollout.now (is_marked state.now.done.items) number
             edge }
     {
         rollout.keeps_conditions();
@@ -362,9 +352,9 @@ impl Reach {
     fn is_harmless(&self, rollout: &Rollout, state: &State, number: u32, edge: u32) -> bool
         requires reach { IsReach rollout.now self.now }
         requires state { IsStateOf rollout.now state.now }
-        requires number { number < length rollout.now.paths }
+        requires number { number < length rollout.now.requests }
         requires edge { edge < length rollout.now.graph.edges }
-        ensures { IsTrue result → IsHarmless rollout.now (is_done_in state.now.done.items) number
+        ensures { IsTrue result → IsHarmless rollout.now (is_marked state.now.done.items) number
             edge }
     {
         rollout.keeps_conditions();
@@ -381,10 +371,10 @@ impl Reach {
     pub(crate) fn spares(&self, rollout: &Rollout, state: &State, number: u32, step: usize) -> bool
         requires reach { IsReach rollout.now self.now }
         requires state { IsStateOf rollout.now state.now }
-        requires number { number < length rollout.now.paths }
+        requires number { number < length rollout.now.requests }
         requires step { step < step_count rollout.now }
         ensures { IsTrue result →
-            All (IsHarmless rollout.now (is_done_in state.now.done.items) number)
+            All (IsHarmless rollout.now (is_marked state.now.done.items) number)
             (edges_of_step rollout.now step) }
     {
         for edge in self.edges(step) {

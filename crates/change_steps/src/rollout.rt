@@ -14,7 +14,7 @@ use std::marker::Model;
 #[derive(Drop)]
 pub(crate) struct Rollout<'a> {
     graph: &'a Graph,
-    paths: &'a [Request],
+    requests: &'a [Request],
     moves: &'a Moves,
 }
 
@@ -23,34 +23,43 @@ impl<'a> Model for Rollout<'a> {
 
     ghost Value = { OneRollout };
 
-    ghost view = { λ r. record { graph = r.graph.now; paths = r.paths.now; moves = r.moves.now } };
+    ghost view = { λ r. record {
+      graph = r.graph.now;
+      requests = r.requests.now;
+      moves = r.moves.now;
+    } };
 
     ghost invariant = { λ r. IsRollout (record {
       graph = r.graph.now;
-      paths = r.paths.now;
+      requests = r.requests.now;
       moves = r.moves.now;
     }) };
 }
 
 impl<'a> Rollout<'a> {
     /// The rollout of a graph, its requests and its moves.
-    pub fn new(graph: &'a Graph, paths: &'a [Request], moves: &'a Moves) -> Rollout<'a>
+    pub fn new(graph: &'a Graph, requests: &'a [Request], moves: &'a Moves) -> Rollout<'a>
         requires priced { All (λ edge. IsPriced (length moves.now.present) edge.price)
             graph.now.edges }
-        requires paths { ArePathsOf graph.now paths.now }
-        requires few { length paths.now ≤ 10000 }
-        ensures { result ≡ record { graph = graph.now; paths = paths.now; moves = moves.now } }
+        requires requests { ArePathsOf graph.now requests.now }
+        requires few { length requests.now ≤ 10000 }
+        ensures { result ≡ record {
+          graph = graph.now;
+          requests = requests.now;
+          moves =
+              moves.now;
+        } }
     {
         graph.keeps_conditions();
         moves.keeps_conditions();
         Rollout {
             graph,
-            paths,
+            requests,
             moves,
         }
     }
 
-    /// A law of each rollout, which takes no time: it keeps its conditions.
+    /// For the prover alone: keeps that a rollout meets its conditions; takes no time and changes nothing.
     pub fn keeps_conditions(&self)
         ensures { IsRollout self.now }
     {
@@ -74,18 +83,18 @@ impl<'a> Rollout<'a> {
     }
 
     /// How many requests there are.
-    pub fn path_count(&self) -> u32
-        ensures { result ≡ length self.now.paths }
+    pub fn request_count(&self) -> u32
+        ensures { result ≡ length self.now.requests }
     {
-        self.paths.len() as u32
+        self.requests.len() as u32
     }
 
     /// The request of that number.
     pub fn request(&self, number: u32) -> &Request
-        requires { number < length self.now.paths }
-        ensures { result.now ≡ request_at self.now.paths number }
+        requires { number < length self.now.requests }
+        ensures { result.now ≡ request_at self.now.requests number }
     {
-        &self.paths[number as usize]
+        &self.requests[number as usize]
     }
 
     /// How many steps there are.

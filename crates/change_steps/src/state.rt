@@ -1,13 +1,14 @@
 //! A state of a rollout, with its costs.
 ghost use Rattle.std.specs.Prelude.{◌≡◌, ◌↔◌, ◌<◌, ℕ, All, IfOk, IsTrue, cond, false, length, slice_index, slice_set, true};
+ghost use Rattle.cost_base.specs.Marks.{is_marked, is_one_of};
 ghost use Rattle.spf_ties.specs.Distances.{IsRoomFor};
 ghost use Rattle.change_steps.specs.Rollouts.{lines_of_step, step_count};
-ghost use Rattle.change_steps.specs.Orders.{IsOnlyIn, all_done, is_one_of, none_done};
-ghost use Rattle.change_steps.specs.States.{is_done_in, marks_of};
+ghost use Rattle.change_steps.specs.Orders.{IsOnlyIn, all_done, none_done};
+ghost use Rattle.change_steps.specs.States.{marks_of};
 ghost use Rattle.change_steps.specs.Search.{IsStateOf};
 
 use crate::rollout::Rollout;
-use area_graph::Point;
+use area_graph::{Point, point_of};
 use cost_base::{Listed, OutOfMemory, no_marks};
 use rival_separation::find_rival;
 use spf_ties::Room;
@@ -18,17 +19,6 @@ use std::alloc::Global;
 pub(crate) struct State {
     pub(crate) done: Vec<bool>,
     point: Point,
-}
-
-/// These costs, as the values of a point.
-fn widened(alloc: Global, costs: &[u16]) -> Result<Vec<u128>, OutOfMemory>
-    ensures { IfOk result (λ values. values.items ≡ costs.now) }
-{
-    let mut values = Vec::new(alloc);
-    for cost in costs {
-        values.push(*cost as u128)?;
-    }
-    Ok(values)
 }
 
 /// Gives the variables of a step these costs.
@@ -52,14 +42,8 @@ impl State {
         ensures none { IfOk result (λ state. state.done.items ≡ marks_of rollout.now none_done) }
     {
         let done = no_marks(alloc, rollout.step_count())?;
-        let values = widened(alloc, rollout.present())?;
-        Ok(State {
-            done,
-            point: Point {
-                scale: 1,
-                values: Listed::from_items(values),
-            },
-        })
+        let point = point_of(alloc, rollout.present())?;
+        Ok(State { done, point })
     }
 
     /// The state after some steps.
@@ -134,11 +118,11 @@ impl State {
     /// Whether the path of a request is the only cheapest in the state.
     pub(crate) fn is_only(&self, rollout: &Rollout, number: u32, room: &mut Room) -> bool
         requires state { IsStateOf rollout.now self.now }
-        requires known { number < length rollout.now.paths }
+        requires known { number < length rollout.now.requests }
         requires room { IsRoomFor rollout.now.graph room.old }
         ensures room { IsRoomFor rollout.now.graph room.new }
         ensures only { IsTrue result ↔
-            IsOnlyIn rollout.now (is_done_in self.now.done.items) number }
+            IsOnlyIn rollout.now (is_marked self.now.done.items) number }
     {
         rollout.keeps_conditions();
         !find_rival(rollout.graph(), rollout.request(number), &self.point, room)

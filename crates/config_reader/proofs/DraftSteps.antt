@@ -20,7 +20,7 @@ use Rattle.config_reader.specs.Gathered.{NamesApart, IsOpened, IsGathered}
 use Rattle.config_reader.specs.declared.reader.SaidLine.{SaidLine}
 use Rattle.config_reader.specs.Heards.{head_heard, said_of}
 use Rattle.config_reader.specs.declared.reader.NamedHead.{NamedHead}
-use Rattle.config_reader.proofs.LongerLists.{any-map}
+use Rattle.text_lines.proofs.Images.{any-map}
 use Rattle.config_reader.proofs.BlockFacts.{firsts-apart}
 use Rattle.config_reader.proofs.HeadSteps.{firsts-push, unless_known, is_headed}
 

@@ -15,7 +15,7 @@ use Rattle.interface_model.specs.Records.{Router}
 use Rattle.config_reader.specs.Statements.{CostIs, OfInterface, OfOther, block_of, cost_statement, interface_statement, statement_in}
 use Rattle.config_reader.specs.Settings.{Said, said, block_by_head, about_router, setting, router_id_said, interface_as_set, is_of, is_of_router}
 use Rattle.config_reader.specs.Configs.{config_of, first_heads, name_with_line, name_opened}
-use Rattle.config_reader.specs.Faults.{router_name_said}
+use Rattle.config_reader.specs.RouterNames.{router_name_said}
 use Rattle.config_reader.specs.Sections.{config_section_lines, with_cost, with_costs, IsSectionCost, name_line, section_cost_line}
 use Rattle.config_reader.proofs.SaidSteps.{said_after, said-push, names_router, router_name-push, opened_from}
 use Rattle.config_reader.proofs.SettingSteps.{interface_of-other, interface_of-cost, about_router-push, said_where}

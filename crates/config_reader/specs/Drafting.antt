@@ -12,7 +12,7 @@ use Rattle.config_reader.specs.declared.networks.NetworkLine.{NetworkLine}
 use Rattle.config_reader.specs.declared.drafts.Draft.{Draft}
 use Rattle.config_reader.specs.Statements.{Statement, AddressIs, AreaIs, CostIs, KindIs, PriorityIs, PassiveIs, DownIs, RouterIdIs, NetworkIs, PassiveInterfaceIs, Block, OfInterface, OfRouter, OfOther}
 use Rattle.config_reader.specs.Settings.{Said}
-use Rattle.config_reader.specs.Faults.{before_first_dot, after_last_slash, is_router_name}
+use Rattle.config_reader.specs.RouterNames.{before_first_dot, after_last_slash, is_router_name}
 use Rattle.config_reader.specs.FaultList.{Fault, differs}
 
 -- a `network` line of a router block

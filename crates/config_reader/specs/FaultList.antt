@@ -11,7 +11,7 @@ use Rattle.config_reader.specs.declared.fault.ConfigFault.TheVariants.{LongLine,
 use Rattle.config_reader.specs.Statements.{Statement, AddressIs, NetworkIs, Refused, Network, Block, OfInterface, OfRouter}
 use Rattle.config_reader.specs.Settings.{Said, said, said_at_place, about, setting, area_set, address_said, interface_address, networks_said, matches}
 use Rattle.config_reader.specs.Configs.{first_heads}
-use Rattle.config_reader.specs.Faults.{is_router_name, router_name_said}
+use Rattle.config_reader.specs.RouterNames.{is_router_name, router_name_said}
 
 -- a fault, and its line; a name that is taken from the file's name has line 0
 pub record Fault : Type 0 where

@@ -115,10 +115,7 @@ fn checked<'a>(
     if let Some(fault) = first_fault(parts, networks, &drafts, name) {
         // For the prover alone: a call drops them, so that their parts' drops aren't written out at each exit.
         drop(drafts);
-        return Err(Refusal::Refused {
-            fault: fault.fault,
-            place: fault.line,
-        });
+        return Err(Refusal::at(fault.line, fault.fault));
     }
     made(alloc, name.name, &parts.said, networks, drafts)
 }

@@ -8,13 +8,13 @@ ghost use Rattle.config_reader.specs.Spoken.{statement_of, block_spoken};
 ghost use Rattle.config_reader.specs.Heards.{said_of, head_heard};
 ghost use Rattle.config_reader.specs.Drafting as drafting;
 
-use crate::names::Names;
 use crate::networks::Networks;
 use crate::reader::{NamedHead, SaidLine};
 use crate::statements::{AddressPrefix, Block, Statement};
 use cost_base::{Name, OutOfMemory};
 use interface_model::{Interface, Kind};
 use std::alloc::Global;
+use text_lines::Names;
 
 /// An interface with what its blocks say; whether a `network` line matches one of its addresses, and whether a router
 /// block makes it passive.

@@ -8,10 +8,9 @@ ghost use Rattle.config_writer.specs.Writing.{OpensHead, GoesOverLine, put_for};
 
 use crate::config_lines::{interface_opened, sets_cost};
 use crate::new_costs::NewCosts;
-use config_reader::Names;
 use cost_base::OutOfMemory;
 use std::alloc::Global;
-use text_lines::{LineKind, kind_of, number_bytes};
+use text_lines::{LineKind, Names, kind_of, push_bytes, push_number};
 
 /// What was written for the lines so far, the heads that were met, and whether the open block is of an interface that
 /// has a new cost.
@@ -88,9 +87,9 @@ fn put_head(
 fn put_line(out: &mut Vec<u8>, text: &[u8], ended: bool) -> Result<(), OutOfMemory>
     ensures { OnOk result (out.new.items ≡ out.old.items ++ (text.now ++ line_end ended)) }
 {
-    out.extend_from_slice(text)?;
+    push_bytes(out, text)?;
     if ended {
-        out.push(b'\n')?;
+        push_bytes(out, b"\n")?;
     }
     Ok(())
 }
@@ -99,10 +98,7 @@ fn put_line(out: &mut Vec<u8>, text: &[u8], ended: bool) -> Result<(), OutOfMemo
 fn put_cost_line(out: &mut Vec<u8>, cost: u16) -> Result<(), OutOfMemory>
     ensures { OnOk result (out.new.items ≡ out.old.items ++ (section_cost_line cost ++ 10 ∷ [])) }
 {
-    let mut room = [0; 40];
-    let length = number_bytes(cost as u128, &mut room);
-    out.extend_from_slice(b" ip ospf cost ")?;
-    out.extend_from_slice(&room[..length])?;
-    out.push(b'\n')?;
-    Ok(())
+    push_bytes(out, b" ip ospf cost ")?;
+    push_number(out, u128::from(cost))?;
+    push_bytes(out, b"\n")
 }

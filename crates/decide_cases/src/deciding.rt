@@ -3,13 +3,13 @@ ghost use Rattle.std.specs.Prelude.{◌<◌, ◌≤◌, length, All};
 ghost use Rattle.cost_branching.specs.Pools.{IsRowPool};
 
 use crate::advisors::Counting;
-use crate::command::Budget;
+use crate::command::CaseLimits;
 use crate::conditions::are_below;
-use case_scripts::Line;
+use case_scripts::{Entries, Spaced};
 use cost_base::{MemorySink, OutOfMemory};
 use cost_branching::{Found, Pool, decide};
 use cut_advisors::{Advisor, Candidate, choose};
-use design_problem::{Answer, Entry, Problem, Row};
+use design_problem::{Answer, Problem, Row};
 use evidence_text::put_answer;
 use least_bound::least;
 use std::alloc::{AllocError, Global};
@@ -20,9 +20,9 @@ use wide_fraction::{Limits, Top};
 const ROOM: usize = 4096;
 
 /// The budget and the width, where there are such.
-fn limits_of(budget: Budget) -> Option<Limits> {
-    let top = Top::new(budget.bits)?;
-    Limits::new(u64::from(budget.nodes), top)
+fn limits_of(case_limits: CaseLimits) -> Option<Limits> {
+    let top = Top::new(case_limits.bits)?;
+    Limits::new(u64::from(case_limits.nodes), top)
 }
 
 /// Rows, each on a line of its own.
@@ -32,42 +32,7 @@ struct Rows<'a>(&'a [Row]);
 impl<'a> fmt::Display for Rows<'a> {
     fn fmt<W: fmt::Write>(&self, f: &mut fmt::Formatter<W>) -> fmt::Result {
         for row in self.0 {
-            write!(f, "\n  row {}", row.request)?;
-            write_words(row.rival.as_slice(), f)?;
-        }
-        Ok(())
-    }
-}
-
-/// Numbers, with a blank before each.
-fn write_words<W: fmt::Write>(numbers: &[u32], f: &mut fmt::Formatter<W>) -> fmt::Result {
-    for number in numbers {
-        write!(f, " {number}")?;
-    }
-    Ok(())
-}
-
-/// The entries of a tree, each on a line of its own.
-#[derive(Drop)]
-struct Entries<'a>(&'a [Entry]);
-
-impl<'a> fmt::Display for Entries<'a> {
-    fn fmt<W: fmt::Write>(&self, f: &mut fmt::Formatter<W>) -> fmt::Result {
-        for entry in self.0 {
-            write!(f, "\n  {}", Line(entry))?;
-        }
-        Ok(())
-    }
-}
-
-/// Costs, with a blank before each.
-#[derive(Drop)]
-struct Costs<'a>(&'a [u16]);
-
-impl<'a> fmt::Display for Costs<'a> {
-    fn fmt<W: fmt::Write>(&self, f: &mut fmt::Formatter<W>) -> fmt::Result {
-        for cost in self.0 {
-            write!(f, " {cost}")?;
+            write!(f, "\n  row {}{}", row.request, Spaced(row.rival.as_slice()))?;
         }
         Ok(())
     }
@@ -77,7 +42,7 @@ impl<'a> fmt::Display for Costs<'a> {
 fn found_text(alloc: Global, found: &Found, rows: &[Row]) -> Result<String, OutOfMemory> {
     let (word, tree) = match found {
         Found::Costs(costs) => {
-            return Ok(format!(in alloc; ": costs{}", Costs(costs.as_slice()))?);
+            return Ok(format!(in alloc; ": costs{}", Spaced(costs.as_slice()))?);
         }
         Found::Refuted(tree) => ("refuted", tree),
         Found::Undecided(tree) => ("spent", tree),
@@ -122,9 +87,9 @@ pub(crate) fn decide_text(
     alloc: Global,
     problem: &Problem,
     cap: u16,
-    budget: Budget,
+    case_limits: CaseLimits,
 ) -> Result<String, OutOfMemory> {
-    let Some(limits) = limits_of(budget) else {
+    let Some(limits) = limits_of(case_limits) else {
         return Ok(String::from_str(alloc, ": no budget")?);
     };
     if !are_below(problem.low.as_slice(), cap) {
@@ -187,10 +152,10 @@ pub(crate) fn told_text(
     alloc: Global,
     problem: &Problem,
     cap: u16,
-    budget: Budget,
+    case_limits: CaseLimits,
     count: u32,
 ) -> Result<String, OutOfMemory> {
-    let Some(limits) = limits_of(budget) else {
+    let Some(limits) = limits_of(case_limits) else {
         return Ok(String::from_str(alloc, ": no budget")?);
     };
     let choices = choices(alloc, count)?;
@@ -216,9 +181,9 @@ fn text_of(alloc: Global, bytes: &[u8]) -> Result<String, OutOfMemory> {
 pub(crate) fn least_text(
     alloc: Global,
     problem: &Problem,
-    budget: Budget,
+    case_limits: CaseLimits,
 ) -> Result<String, OutOfMemory> {
-    let Some(limits) = limits_of(budget) else {
+    let Some(limits) = limits_of(case_limits) else {
         return Ok(String::from_str(alloc, ": no budget")?);
     };
     let mut advisors: Vec<Box<dyn Advisor>> = Vec::new(alloc);

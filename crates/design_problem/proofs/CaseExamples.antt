@@ -1,4 +1,5 @@
--- The forms and trees of the worked cases, made by hand: square, triangle_three, six, twin and lan. The ring stands apart.
+-- The forms and trees of the worked cases, made by hand: square, triangle_three, six, twin and lan. The ring stands
+-- apart.
 use Rattle.std.proofs.Common.{◌≡◌, ℕ, refl, List, [], ◌∷◌, rules}
 use Rattle.std.specs.Prelude.{pos, negsuc, replicate}
 use Rattle.cost_base.specs.declared.StepName.TheVariants.{Scale}

@@ -147,5 +147,5 @@ many_cuts accepts top rows box tree earnest =
     let most = earnest_counts accepts top (length box.low) rows (record { box = box; since = [] } ∷ []) tree (fresh (length box.low) box refl, tt) earnest in
     record {
       count = omega arith;
-      unfinished = λ has. let mark = has_mark tree has in omega arith;
+      undecided = λ has. let mark = has_mark tree has in omega arith;
     }

@@ -1,4 +1,5 @@
--- One box and a stack of the ends that were changed tell the open boxes: changes that are put onto the stack, and put back.
+-- One box and a stack of the ends that were changed tell the open boxes: changes that are put onto the stack, and put
+-- back.
 use Rattle.std.proofs.Common.{◌≡◌, ℕ, ◌+◌, sym, ◌∙◌, ap, subst, List, [], ◌∷◌, ◌++◌, length, reverse}
 use Rattle.std.specs.Prelude.{Some, slice_index, slice_set, All}
 use Rattle.std.proofs.lemmas.List.{reverse-append, set-get_or, set-set}

@@ -146,7 +146,7 @@ few_entries n forms box tree kept sound =
     let few = tree_entries-le n forms box tree kept sound in
     record {
       count = omega arith;
-      unfinished = λ has. let mark = has_mark tree has in omega arith;
+      undecided = λ has. let mark = has_mark tree has in omega arith;
     }
 
 -- a preorder decides its tree, and where it ends

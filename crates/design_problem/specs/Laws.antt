@@ -31,7 +31,7 @@ IsMet g w wanted rival = pos 0 ≤ℤ value_for_costs (form_between g (length w)
 -- the costs are within the bounds, and the form of each row is at least 0
 pub record MeetsBoundsAndRows (p : DesignProblem) (w : List ℕ) : Type 0 where
   pub within : IsInBox (box_of p) w
-  pub rows : All (λ r. (rival : List ℕ) → IsPathOf p.graph (request_ends r) rival → rival ≢ r.path.edges → IsMet p.graph w r.path.edges rival) p.paths
+  pub rows : All (λ r. (rival : List ℕ) → IsPathOf p.graph (request_ends r) rival → rival ≢ r.path.edges → IsMet p.graph w r.path.edges rival) p.requests
 
 -- costs are fit exactly where they are within the bounds and the form of each row is at least 0
 abbrev pub FitMeansMet : Type 0

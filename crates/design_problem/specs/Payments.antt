@@ -5,7 +5,7 @@ use Rattle.area_graph.specs.declared.Price.{Price}
 use Rattle.area_graph.specs.declared.Price.TheVariants.{Fixed, Var, Zero}
 use Rattle.design_problem.specs.declared.balance.Balance.{Balance}
 use Rattle.design_problem.specs.declared.form.Term.{Term}
-use Rattle.design_problem.specs.declared.tally.Payment.{Payment}
+use Rattle.design_problem.specs.declared.payments.Payment.{Payment}
 use Rattle.design_problem.specs.Forms.{term_of}
 
 -- the payment of a price, where it is a variable's

@@ -32,10 +32,10 @@ pub fn capped_box(
     ensures { IfOk result (λ costs. costs ≡ capped (record { low = low.now; high = high.now })
         cap) }
 {
-    let low = low.to_vec(alloc)?;
+    let low = Listed::from_slice(alloc, low)?;
     let high = cut_to(alloc, high, cap)?;
     Ok(CostBox {
-        low: Listed::from_items(low),
+        low,
         high: Listed::from_items(high),
     })
 }

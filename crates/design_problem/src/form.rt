@@ -54,6 +54,22 @@ impl Model for Form {
         f.terms.items ≡ terms_of (form_by f.variables f.constant f.terms.items) };
 }
 
+impl CostBox {
+    /// An equal box.
+    ///
+    /// # Errors
+    ///
+    /// `OutOfMemory`.
+    pub fn copy(&self, alloc: Global) -> Result<CostBox, OutOfMemory>
+        ensures { IfOk result (λ copy. copy ≡ self.now) }
+    {
+        Ok(CostBox {
+            low: self.low.copy(alloc)?,
+            high: self.high.copy(alloc)?,
+        })
+    }
+}
+
 /// Puts the term of a coefficient at the end, unless it is 0.
 pub(crate) fn push_term(
     terms: &mut Vec<Term>,
@@ -79,17 +95,6 @@ fn terms_of_all(alloc: Global, coefficients: &[i64]) -> Result<Vec<Term>, OutOfM
         push_term(&mut terms, var as u32, coefficients[var])?;
     }
     Ok(terms)
-}
-
-/// The same terms, in memory of their own.
-///
-/// # Errors
-///
-/// `OutOfMemory`.
-pub fn copied_terms(alloc: Global, terms: &[Term]) -> Result<Vec<Term>, OutOfMemory>
-    ensures { IfOk result (λ copy. copy.items ≡ terms.now) }
-{
-    Ok(terms.to_vec(alloc)?)
 }
 
 impl Form {
@@ -160,7 +165,7 @@ impl Form {
     pub fn copy(&self, alloc: Global) -> Result<Form, OutOfMemory>
         ensures { IfOk result (λ form. form ≡ self.now) }
     {
-        let terms = copied_terms(alloc, self.terms.as_slice())?;
+        let terms = Vec::from_slice(alloc, self.terms.as_slice())?;
         Ok(Form {
             constant: self.constant,
             variables: self.variables,

@@ -21,9 +21,9 @@ use Rattle.input_files.proofs.Readings.{one_end}
 use Rattle.report_writer.specs.declared.report.Report.{Report}
 use Rattle.report_writer.specs.Reports.{IsWritten, Reports, ReportsAny, bytes_in}
 use Rattle.report_writer.proofs.ReportLaws.{may_report}
-use Rattle.design_commands.specs.Asking.{AsksAt, IsMadeText}
+use Rattle.design_commands.specs.AdvisorsAsked.{AsksAt, IsMadeText}
 use Rattle.design_commands.proofs.Asking.{asked_of_report, asks_one, read_alone}
-use Rattle.designer_command.specs.Asking.{IsMadeAsking}
+use Rattle.designer_command.specs.AdvisorsAsked.{IsMadeAsking}
 use Rattle.designer_command.specs.Runs.{IsMadeAs, IsTried, MayReport, MayWant, MayWrite, MayWriteAsking, RunMeets, Writes}
 use Rattle.designer_command.specs.Usage.{usage}
 use Rattle.designer_command.proofs.Runs.{WritesNone, done_after, wanting_after, writes_none, written_meets}

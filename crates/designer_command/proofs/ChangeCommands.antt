@@ -5,19 +5,19 @@ use Rattle.cost_base.specs.declared.Status.{Status}
 use Rattle.cost_base.specs.declared.Status.TheVariants as status
 use Rattle.design_problem.specs.Problems.{DesignProblem}
 use Rattle.design_problem.specs.Rows.{IsFit}
-use Rattle.command_words.specs.Jobs.{SearchLimits}
+use Rattle.wide_fraction.specs.SearchLimits.{SearchLimits}
 use Rattle.input_files.specs.Outcomes.{Input}
 use Rattle.least_change.specs.declared.change.Change.{Change}
 use Rattle.least_change.specs.declared.change.Change.TheVariants.{Fewest, Impossible, Undecided}
 use Rattle.least_change.specs.Changes.{IsChangeFound}
-use Rattle.least_change.specs.Laws.{CannotBeUndecidedOnChanges}
+use Rattle.least_change.specs.Laws.{IsSufficientForChanges}
 use Rattle.least_change.proofs.Sufficient.{sufficient_settle as changes_settle}
 use Rattle.change_commands.specs.Changes.{MayChange, ShowsChange, change_status, question_of}
 use Rattle.design_problem.specs.declared.answer.CostLine.{CostLine}
 use Rattle.sections_reader.specs.Texts.{SaysCosts}
 use Rattle.sections_reader.proofs.SaidCosts.{said_once, said_read}
 use Rattle.change_steps.specs.declared.found.Outcome.{Outcome}
-use Rattle.change_steps.specs.declared.found.Outcome.TheVariants.{Order, NoOrder, Undecided as NoStepsKnown}
+use Rattle.change_steps.specs.declared.found.Outcome.TheVariants.{Order, NoOrder, Undecided as StepsUndecided}
 use Rattle.change_steps.specs.declared.found.Steps.{Steps}
 use Rattle.change_steps.specs.Kinds.{steps_between}
 use Rattle.change_steps.specs.Outcomes.{AreStepsFound, IsOutcome}
@@ -25,7 +25,7 @@ use Rattle.command_words.specs.declared.job.StepUnit.{StepUnit}
 use Rattle.report_writer.specs.declared.rejection.Rejection.{Rejection}
 use Rattle.change_commands.specs.Plans.{Plan, first_line_fault, rollout_of}
 use Rattle.change_commands.specs.Steps.{IsPlanRefused, MaySteps, ShowsSteps, outcome_status}
-use Rattle.designer_command.specs.Completeness.{AreStepsSettled, CannotBeUndecidedOnSteps, ChangesAreFound, IsRunSettled, StepsAreFound}
+use Rattle.designer_command.specs.Completeness.{AreStepsSettled, IsSufficientForSteps, ChangesAreFound, IsRunSettled, StepsAreFound}
 use Rattle.designer_command.proofs.CompletenessLaws.{none_settles}
 use Rattle.designer_command.proofs.FurtherCommands.{IsFound, done_impossible, done_undecided, impossible_done, impossible_undecided, undecided_done, undecided_impossible}
 use Rattle.designer_command.proofs.OwnStatuses.{own_change, own_steps, said_end}
@@ -44,7 +44,7 @@ change_settles limits d bytes shown = by_found shown.change shown.found shown.st
     by_found : (change : Change) → IsChangeFound (question_of limits d) change → change_status change ≡ status.Done → IsRunSettled d.problem status.Done
     by_found (Fewest w evidence) found is = fit_settles d.problem w found.fewest.fit
     by_found (Impossible rows tree) found is = absurd (impossible_done is)
-    by_found (Undecided w evidence stuck) found is = absurd (undecided_done is)
+    by_found (Undecided w evidence undecided) found is = absurd (undecided_done is)
 
 none_change : (limits : SearchLimits) (d : Input) (bytes : List ℕ) → ShowsChange limits d status.Impossible bytes → IsRunSettled d.problem status.Impossible
 none_change limits d bytes shown = by_found shown.change shown.found shown.status
@@ -53,25 +53,25 @@ none_change limits d bytes shown = by_found shown.change shown.found shown.statu
         IsRunSettled d.problem status.Impossible
     by_found (Fewest w evidence) found is = absurd (done_impossible is)
     by_found (Impossible rows tree) found is = none_settles d.problem found.none
-    by_found (Undecided w evidence stuck) found is = absurd (undecided_impossible is)
+    by_found (Undecided w evidence undecided) found is = absurd (undecided_impossible is)
 
-unknown_change : (limits : SearchLimits) (d : Input) (bytes : List ℕ) → CannotBeUndecidedOnChanges (question_of limits d) →
+undecided_changes : (limits : SearchLimits) (d : Input) (bytes : List ℕ) → IsSufficientForChanges (question_of limits d) →
     ShowsChange limits d status.Undecided bytes → ⊥
-unknown_change limits d bytes cannot shown = by_found shown.change shown.found shown.status
+undecided_changes limits d bytes cannot shown = by_found shown.change shown.found shown.status
   where
     by_found : (change : Change) → IsChangeFound (question_of limits d) change → change_status change ≡ status.Undecided → ⊥
     by_found (Fewest w evidence) found is = done_undecided is
     by_found (Impossible rows tree) found is = impossible_undecided is
-    by_found (Undecided w evidence stuck) found is = changes_settle (question_of limits d) (Undecided w evidence stuck) cannot found
+    by_found (Undecided w evidence undecided) found is = changes_settle (question_of limits d) (Undecided w evidence undecided) cannot found
 
 pub changes_found : ChangesAreFound
 changes_found limits names came d end bytes ends h =
     said_end _ (MayChange limits) came d end bytes
-    (λ s. IsFound s × (CannotBeUndecidedOnChanges (question_of limits d) → IsRunSettled d.problem s)) (own_change limits)
+    (λ s. IsFound s × (IsSufficientForChanges (question_of limits d) → IsRunSettled d.problem s)) (own_change limits)
     (record {
       done = λ h. (inl refl, λ cannot. change_settles limits d bytes h);
       impossible = λ h. (inr (inl refl), λ cannot. none_change limits d bytes h);
-      undecided = λ h. (inr (inr refl), λ cannot. absurd (unknown_change limits d bytes cannot h));
+      undecided = λ h. (inr (inr refl), λ cannot. absurd (undecided_changes limits d bytes cannot h));
       rejected = λ h. absurd h;
     }) ends h
 
@@ -113,7 +113,7 @@ order_settles nodes by plan lines of = by_outcome of.steps.outcome of.found.outc
       none = λ none. absurd (none order.items found);
     }
     by_outcome (NoOrder stuck) found is = absurd (impossible_done is)
-    by_outcome (NoStepsKnown stuck) found is = absurd (undecided_done is)
+    by_outcome (StepsUndecided stuck) found is = absurd (undecided_done is)
 
 none_steps : (nodes : ℕ) (by : StepUnit) (plan : Plan) (lines : List CostLine) → IsFoundOf nodes by plan lines status.Impossible →
     AreStepsSettled by plan lines status.Impossible
@@ -129,17 +129,17 @@ none_steps nodes by plan lines of = by_outcome of.steps.outcome of.found.outcome
       order = λ other safe. absurd (found.none other safe);
       none = λ none. refl;
     }
-    by_outcome (NoStepsKnown stuck) found is = absurd (undecided_impossible is)
+    by_outcome (StepsUndecided stuck) found is = absurd (undecided_impossible is)
 
-unknown_steps : (nodes : ℕ) (by : StepUnit) (plan : Plan) (lines : List CostLine) →
-    CannotBeUndecidedOnSteps nodes (rollout_of by plan.input lines) → IsFoundOf nodes by plan lines status.Undecided → ⊥
-unknown_steps nodes by plan lines cannot of = by_outcome of.steps.outcome of.found.outcome of.status
+undecided_steps : (nodes : ℕ) (by : StepUnit) (plan : Plan) (lines : List CostLine) →
+    IsSufficientForSteps nodes (rollout_of by plan.input lines) → IsFoundOf nodes by plan lines status.Undecided → ⊥
+undecided_steps nodes by plan lines cannot of = by_outcome of.steps.outcome of.found.outcome of.status
   where
     by_outcome : (outcome : Outcome) → IsOutcome (rollout_of by plan.input lines) of.steps.held.items nodes outcome →
         outcome_status outcome ≡ status.Undecided → ⊥
     by_outcome (Order order) found is = done_undecided is
     by_outcome (NoOrder stuck) found is = impossible_undecided is
-    by_outcome (NoStepsKnown stuck) found is =
+    by_outcome (StepsUndecided stuck) found is =
         let enough : 2 ^ length (steps_between (rollout_of by plan.input lines) of.steps.held.items) ≤ nodes
         = cannot of.steps.held.items of.found.held in
         let less = found.1 in
@@ -162,13 +162,13 @@ never_refused plan lines rejection said faultless (inr (inr faulty)) =
 pub steps_found : StepsAreFound
 steps_found nodes by names answer came plan lines end bytes ends said faultless h =
     said_end _ (MaySteps nodes by) came plan end bytes
-    (λ s. IsFound s × (CannotBeUndecidedOnSteps nodes (rollout_of by plan.input lines) → AreStepsSettled by plan lines s)) (own_steps nodes by)
+    (λ s. IsFound s × (IsSufficientForSteps nodes (rollout_of by plan.input lines) → AreStepsSettled by plan lines s)) (own_steps nodes by)
     (record {
       done = λ h. (inl refl, λ cannot. order_settles nodes by plan lines (found_of nodes by plan lines status.Done bytes said h));
       impossible = λ h. (inr (inl refl), λ cannot. none_steps nodes by plan lines (found_of nodes by plan lines status.Impossible bytes said h));
       undecided = λ h. (
         inr (inr refl),
-        λ cannot. absurd (unknown_steps nodes by plan lines cannot (found_of nodes by plan lines status.Undecided bytes said h)),
+        λ cannot. absurd (undecided_steps nodes by plan lines cannot (found_of nodes by plan lines status.Undecided bytes said h)),
       );
       rejected = λ h. absurd (never_refused plan lines h.0 said faultless h.1);
     }) ends h

@@ -3,6 +3,7 @@ use Rattle.std.proofs.Common.{◌≡◌, ◌∙◌, ℕ, ◌+◌, ◌<◌, ◌�
 use Rattle.std.specs.Prelude.{All, Option, None, Some, Result, Ok, Err, bytes_eq}
 use Rattle.std.proofs.lemmas.List.Sums.{sum_by-cons}
 use Rattle.std.proofs.lemmas.Slice.Eq.{bytes_eq-Decides}
+use Rattle.std.proofs.lemmas.Option.{same_Some}
 use Rattle.cost_base.specs.declared.ShelfStop.{ShelfStop}
 use Rattle.cost_base.specs.declared.ShelfStop.TheVariants as stop
 use Rattle.cost_base.specs.declared.Status.{Status}
@@ -16,9 +17,10 @@ use Rattle.design_problem.specs.Problems.{DesignProblem}
 use Rattle.design_problem.specs.Rows.{AreBestCosts}
 use Rattle.design_problem.specs.ProblemLaws.{HasNoFit}
 use Rattle.sections_reader.proofs.SaidCosts.{said_once, said_read}
-use Rattle.least_bound.specs.Answered.{UnfinishedAt}
+use Rattle.least_bound.specs.Answered.{UndecidedAt}
 use Rattle.config_writer.specs.Rewriting.{first_missing}
-use Rattle.command_words.specs.Jobs.{SearchLimits, JobRead}
+use Rattle.command_words.specs.Jobs.{JobRead}
+use Rattle.wide_fraction.specs.SearchLimits.{SearchLimits}
 use Rattle.command_words.specs.Jobs as read
 use Rattle.command_words.specs.Commands.{job_of}
 use Rattle.trial_maker.specs.TrialTexts.{made_trial}
@@ -32,7 +34,7 @@ use Rattle.design_commands.specs.Designs.{IsDesigned, IsShownImpossible, IsShown
 use Rattle.design_commands.specs.Trials.{MayTry, MayTryEnd, trial_end, trial_limits}
 use Rattle.path_commands.specs.Audits.{MayAudit}
 use Rattle.designer_command.specs.Runs.{MayWrite, MayWriteAsking, OnFailure, RunMeets, Writes}
-use Rattle.designer_command.specs.Completeness.{CannotBeUndecided, DesignsAreAccepted, HeadedCostsAreWritten, IsRunSettled, TrialsAreDesigned, ValidAnswersAreAccepted, WellFormedInputIsAudited, WellFormedInputIsDesigned}
+use Rattle.designer_command.specs.Completeness.{IsSufficient, DesignsAreAccepted, HeadedCostsAreWritten, IsRunSettled, TrialsAreDesigned, ValidAnswersAreAccepted, WellFormedInputIsAudited, WellFormedInputIsDesigned}
 use Rattle.designer_command.proofs.OwnStatuses.{only_done, own_audit, own_check, own_design, own_end, own_rewrite, own_try, said_end}
 
 pub audited : WellFormedInputIsAudited
@@ -58,10 +60,10 @@ none_settles p none = record {
 }
 
 -- where the budget can't be used up, no text shows that it was
-pub never_undecided : (limits : SearchLimits) (p : DesignProblem) (bytes : List ℕ) → CannotBeUndecided limits p → IsShownUndecided limits p bytes → ⊥
-never_undecided limits p bytes never shown = by_tree shown.answer.unfinished shown.undecided.unfinished
+pub never_undecided : (limits : SearchLimits) (p : DesignProblem) (bytes : List ℕ) → IsSufficient limits p → IsShownUndecided limits p bytes → ⊥
+never_undecided limits p bytes never shown = by_tree shown.answer.undecided shown.undecided.undecided
   where
-    by_tree : (t : Option CapTree) → UnfinishedAt p limits.top limits.nodes shown.answer.rows shown.cap t → ⊥
+    by_tree : (t : Option CapTree) → UndecidedAt p limits.top limits.nodes shown.answer.rows shown.cap t → ⊥
     by_tree None h = h
     by_tree (Some t) h =
         never t.cap shown.answer.rows t.tree
@@ -96,9 +98,6 @@ designs_accepted limits d aim printed (inr is) may names answer came end bytes e
     let shown : IsShownImpossible limits d.problem printed = subst (λ (s : Status). MayDesign limits d s printed) is may in
     accepted names answer came (record { problem = d.problem; bytes = printed }) shown.answer end bytes ends shown.value shown.spelled shown.valid h
 
-some_lines : (x y : List CostLine) → Some x ≡ Some y → x ≡ y
-some_lines x y e = cc
-
 none_some : (x : List CostLine) → Some x ≡ None → ⊥
 none_some x e = cc
 
@@ -112,7 +111,7 @@ written config answer came r costs end bytes ends said headed h =
     fit rejection (inr (inr missing)) =
         missing.missing
         (subst (λ (cs : List CostLine). first_missing (new_costs r.config cs) r.config.bytes ≡ None)
-        (some_lines costs missing.costs (said_once r.bytes (Some costs) (Some missing.costs) said missing.said)) headed)
+        (same_Some costs missing.costs (said_once r.bytes (Some costs) (Some missing.costs) said missing.said)) headed)
 
 abbrev mark : Bool → ℕ
 mark b = cond b 1 0

@@ -183,8 +183,8 @@ pub record WritesNothing (handed : List ℕ → Type 0) (got_before got_now : Op
   pub written : handed []
   pub same : got_now ≡ got_before
 
--- How a run ends of which it is known what it may write: `handed` tells what the sink was handed, and it got that where it
--- tells its bytes.
+-- How a run ends of which it is known what it may write: `handed` tells what the sink was handed, and it got that where
+-- it tells its bytes.
 abbrev pub Writes : (Status → List ℕ → Type 0) → (List ℕ → Type 0) → Option (List ℕ) → Option (List ℕ) → ℕ → ℕ → Status → Type 0
 Writes may handed got_before got_now count_before count_now WriteFault = WritesPart may handed got_before got_now count_before count_now
 Writes may handed got_before got_now count_before count_now OutOfMemory = WritesNothing handed got_before got_now

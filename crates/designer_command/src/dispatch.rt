@@ -1,13 +1,13 @@
 //! From a job to its report: each command's function stands in the crate of its kind.
 ghost use Rattle.std.specs.Prelude.{◌≡◌, ◌≤◌, ◌<◌, ◌^◌, [], IfOk, Some, option_map, string_bytes};
-ghost use Rattle.form_search.specs.Advised.{AreCalled};
+ghost use Rattle.form_search.specs.AdvisorsAsked.{AreCalled};
 ghost use Rattle.text_lines.specs.Arguments.{texts};
 ghost use Rattle.command_words.specs.Jobs.{Audit, IsInRange, Spread, Trial, search_seen, seen};
 ghost use Rattle.help_texts.specs.Texts.{help_text, version_text};
 ghost use Rattle.input_files.specs.Readings.{Gave};
 ghost use Rattle.input_files.specs.Stops.{files_named};
 ghost use Rattle.report_writer.specs.Reports.{bytes_in};
-ghost use Rattle.designer_command.specs.Asking.{AreAskedBy, IsMadeAsking};
+ghost use Rattle.designer_command.specs.AdvisorsAsked.{AreAskedBy, IsMadeAsking};
 ghost use Rattle.designer_command.specs.Runs.{IsMadeAs, IsTold, IsTried, input_files_of, searched};
 
 use change_commands::{StepsWords, change_report, steps_report};
@@ -160,10 +160,12 @@ pub(crate) fn job_report<'a, S: Shelf>(
             nodes,
             by,
             configs,
-        } => {
-            let steps = steps_words(answer, *nodes, *by);
-            steps_report(alloc, files(request, configs), steps, shelf)
-        }
+        } => steps_report(
+            alloc,
+            files(request, configs),
+            steps_words(answer, *nodes, *by),
+            shelf,
+        ),
         Job::Compare {
             live,
             request,

@@ -72,7 +72,7 @@ claim_of p rows Impossible (Some costs) floor proof kept shape costs_hold holds 
 claim_of p rows (Undecided cap) costs floor proof kept shape costs_hold holds = absurd shape
 
 pub valid_of : (p : DesignProblem) (a : AnswerParts) → IsProblem p → ShapeOfClaim p a.verdict a.costs a.floor a.proof
-    × (a.unfinished ≡ None) → CostsHold p a.verdict a.costs a.floor → All (IsRow p) a.rows →
+    × (a.undecided ≡ None) → CostsHold p a.verdict a.costs a.floor → All (IsRow p) a.rows →
     ProofHolds p a.rows a.proof → IsValid p a
 valid_of p a kept shape costs_hold true_rows holds = record {
   rows = true_rows;
@@ -198,7 +198,7 @@ abbrev pub EarlyTests : DesignProblem → AnswerParts → List (FailedTest → T
 EarlyTests p a = AtNoPlace 49 (ClaimsNothing a.verdict) ∷ AtNoPlace 51 (HasWrongShape p a) ∷ cost_tests p a.verdict a.costs a.floor
 
 early_fail : (p : DesignProblem) (a : AnswerParts) → IsProblem p → (ClaimsNothing a.verdict → ⊥) →
-    ShapeOfClaim p a.verdict a.costs a.floor a.proof × (a.unfinished ≡ None) → CostsHold p a.verdict a.costs a.floor →
+    ShapeOfClaim p a.verdict a.costs a.floor a.proof × (a.undecided ≡ None) → CostsHold p a.verdict a.costs a.floor →
     NoneOf (EarlyTests p a)
 early_fail p a kept claims shape holds =
     (λ f failed. claims failed.2, (λ f failed. failed.2 shape, costs_fail p a.verdict a.costs a.floor kept holds))
@@ -225,7 +225,7 @@ accepted_claims (Undecided cap) accepted is nothing = is
 
 -- a test of the costs, after the verdict and the shape
 pub stops_costs : (p : DesignProblem) (a : AnswerParts) (accepted : Accepted) (s : Refusal CheckFault ℕ) →
-    IsAcceptedAs a.verdict accepted → ShapeOfClaim p a.verdict a.costs a.floor a.proof × (a.unfinished ≡ None) →
+    IsAcceptedAs a.verdict accepted → ShapeOfClaim p a.verdict a.costs a.floor a.proof × (a.undecided ≡ None) →
     StopsBy (cost_tests p a.verdict a.costs a.floor) s → StopsBy (tests p a) s
 stops_costs p a accepted s is shape stops =
     let costs = cost_tests p a.verdict a.costs a.floor in
@@ -236,7 +236,7 @@ stops_costs p a accepted s is shape stops =
 
 -- a test of the rows or of the proof, after all others
 pub stops_evidence : (p : DesignProblem) (a : AnswerParts) (accepted : Accepted) (s : Refusal CheckFault ℕ) → IsProblem p →
-    IsAcceptedAs a.verdict accepted → ShapeOfClaim p a.verdict a.costs a.floor a.proof × (a.unfinished ≡ None) →
+    IsAcceptedAs a.verdict accepted → ShapeOfClaim p a.verdict a.costs a.floor a.proof × (a.undecided ≡ None) →
     CostsHold p a.verdict a.costs a.floor →
     StopsBy (AtFirstItem (row_tests p) 0 a.rows ∷ proof_tests p a.rows a.proof) s → StopsBy (tests p a) s
 stops_evidence p a accepted s kept is shape holds stops =

@@ -57,7 +57,7 @@ no_bounds p w within f failed = inside p w f.place within failed.1
 no_greatest : (k printed : ℕ) (w : List ℕ) → (printed ≡ k) × (greatest_cost w ≡ k) → (f : FailedTest) → AtNoPlace 47 (HasWrongGreatest k printed w) f → ⊥
 no_greatest k printed w same f failed = failed.2 same
 
-no_paths : (p : DesignProblem) (w : List ℕ) → All (IsOnlyAt p.graph w) p.paths → (f : FailedTest) → AtFirst 46 (IsNotOnly p w) f → ⊥
+no_paths : (p : DesignProblem) (w : List ℕ) → All (IsOnlyAt p.graph w) p.requests → (f : FailedTest) → AtFirst 46 (IsNotOnly p w) f → ⊥
 no_paths p w only f failed = failed.1.1 (only f.place no_request failed.1.0)
 
 no_floor : (p : DesignProblem) (k : ℕ) (floor : Floor) → (IsFalseFloor p k floor → ⊥) → (f : FailedTest) → AtNoPlace 52 (IsFalseFloor p k floor) f → ⊥
@@ -113,7 +113,7 @@ stops_paths p k costs floor lines w (Refused fault place) lines_are given named 
 
 pub stops_floor : (p : DesignProblem) (k : ℕ) (costs : Costs) (floor : Floor) (lines : List CostLine) (w : List ℕ)
     (s : Refusal CheckFault ℕ) → lines ≡ costs.lines → w ≡ costs_given p lines → NamesPlaces p.vars lines → Names p lines w →
-    IsInBox (box_of p) w → (costs.greatest ≡ k) × (greatest_cost w ≡ k) → All (IsOnlyAt p.graph w) p.paths →
+    IsInBox (box_of p) w → (costs.greatest ≡ k) × (greatest_cost w ≡ k) → All (IsOnlyAt p.graph w) p.requests →
     StopsBy (AtNoPlace 52 (IsFalseFloor p k floor) ∷ []) s → StopsBy (cost_tests p (Optimal k) (Some costs) floor) s
 stops_floor p k costs floor lines w OutOfMemory lines_are given named names_lines within same only stops = tt
 stops_floor p k costs floor lines w (Refused fault place) lines_are given named names_lines within same only stops =
@@ -128,7 +128,7 @@ stops_floor p k costs floor lines w (Refused fault place) lines_are given named 
 -- none fails
 pub passes : (p : DesignProblem) (k printed : ℕ) (lines : List CostLine) (floor : Floor) (w : List ℕ) →
     NamesPlaces p.vars lines → Names p lines w → IsInBox (box_of p) w → (printed ≡ k) × (greatest_cost w ≡ k) →
-    All (IsOnlyAt p.graph w) p.paths → (IsFalseFloor p k floor → ⊥) → NoneOf (TestsAt p k printed lines floor w)
+    All (IsOnlyAt p.graph w) p.requests → (IsFalseFloor p k floor → ⊥) → NoneOf (TestsAt p k printed lines floor w)
 passes p k printed lines floor w named names_lines within same only true_floor = (
   no_places p lines named,
   (

@@ -7,7 +7,7 @@ use Rattle.std.proofs.lemmas.List.{take_all}
 use Rattle.std.proofs.lemmas.List.Sums.{sum_by-drop_more}
 use Rattle.design_problem.specs.Boxes.{upper_sum}
 use Rattle.whole_numbers.proofs.Sizes.{sum_size}
-use Rattle.evidence_checker.proofs.Sizes.{fits_size}
+use Rattle.design_problem.proofs.ProductSizes.{fits_size}
 
 -- a coefficient of those that are left is small
 pub one_is_small : (cs : List ℤ) (i : ℕ) (sum : ℤ) → i < length cs → nat_abs sum + 65535 * sum_by nat_abs (drop i cs) < 2 ^ 127 →

@@ -27,7 +27,7 @@ table_of a = table_in a.in_kernel a.kernel
 -- The lines that are worked on are the table of the box and the rows at the basis. Where the kernel of whole numbers
 -- works, its numbers are those of such a table; and at all times its lists and leads are fit for going back to it.
 pub record IsActive (a : ActiveTable) : Type 0 where
-  pub whole : IsTableau (table_of a)
+  pub tableau : IsTableau (table_of a)
   pub kernel : a.in_kernel ≡ true → IsKernel a.kernel
   pub parked : IsParked a.kernel
   pub room : HasRoom a.kernel.table
@@ -80,7 +80,7 @@ pub record MayReturn (t : Table) : Type 0 where
 -- a table in fractions of what is held, on which the kernel may not work
 pub record CannotReturn (h : Held) : Type 0 where
   pub table : Table
-  pub whole : IsTableau table
+  pub tableau : IsTableau table
   pub holds : held_of table h.stage ≡ h
   pub beyond : MayReturn table → ⊥
 

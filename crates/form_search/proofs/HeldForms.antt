@@ -14,8 +14,8 @@ use Rattle.fraction_table.specs.declared.stage.Stage.{Stage}
 use Rattle.fraction_table.specs.declared.stage.Stage.TheVariants.{Stopped}
 use Rattle.fraction_table.specs.Tableaus.{Held, IsGoing, IsRowRefused, IsTableauStopped, wide_at}
 use Rattle.exact_simplex.specs.Actives.{TableauState, held_by}
-use Rattle.form_search.specs.declared.table.HeldTableau.{HeldTableau}
-use Rattle.form_search.specs.declared.table.Least.{Least}
+use Rattle.form_search.specs.declared.held_tableau.HeldTableau.{HeldTableau}
+use Rattle.form_search.specs.declared.held_tableau.Least.{Least}
 use Rattle.form_search.specs.Tables.{IsHeld, IsHeldOver, IsLeastTold, IsStepTold, KeepsForms, KeepsRows, StandsAt}
 
 -- what holds whatever a result is

@@ -9,11 +9,11 @@ use Rattle.design_problem.specs.Forms.{Form}
 use Rattle.design_problem.specs.declared.form.CostBox.{CostBox}
 use Rattle.fraction_table.specs.Tableaus.{FitsBox}
 use Rattle.form_search.specs.declared.relaxation.Relaxed.{Relaxed}
-use Rattle.form_search.specs.declared.table.HeldTableau.{HeldTableau}
+use Rattle.form_search.specs.declared.held_tableau.HeldTableau.{HeldTableau}
 use Rattle.form_search.specs.Sources.{Grows, IsTrueForm}
 use Rattle.form_search.specs.Points.{IsCostsBox}
 use Rattle.form_search.specs.Tables.{IsHeld, IsRelaxation, IsRoundTold, IsTableauKept, StandsAt}
-use Rattle.form_search.specs.Turns.{HasNew}
+use Rattle.form_search.specs.NextEntries.{HasNew}
 use Rattle.form_search.proofs.CostPoints.{low_values}
 use Rattle.form_search.proofs.MissingForms.{missing, missing_falls}
 

@@ -9,16 +9,16 @@ ghost use Rattle.design_problem.specs.Forms.{Form};
 ghost use Rattle.design_problem.specs.Boxes.{IsInBox, IsPointOf};
 ghost use Rattle.design_problem.specs.Earnest.{IsLeastPoint};
 ghost use Rattle.design_problem.specs.OpenPlaces.{first_place};
-ghost use Rattle.form_search.specs.Advised.{AreAskedAt, AreAskedNext};
+ghost use Rattle.form_search.specs.AdvisorsAsked.{AreAskedAt, AreAskedNext};
 ghost use Rattle.form_search.specs.Calls.{AreInStep, Leaves};
 ghost use Rattle.form_search.specs.Sources.{SameFor, SameSource};
 ghost use Rattle.form_search.specs.Points.{AreCostsOf, IsCostsBox, IsFractional, IsLeastOf, IsIntegralPoint};
-ghost use Rattle.form_search.specs.Turns.{IsDesk, IsNextStep, IsSplitAt};
+ghost use Rattle.form_search.specs.NextEntries.{IsDesk, IsNextStep, IsSplitAt};
 
 use crate::candidates::candidates_of;
-use crate::next_entry::{Desk, Next, halved};
+use crate::costs_of_points::{are_values_accepted, is_whole, value_costs, whole_costs};
+use crate::desk::{Desk, Next, halved};
 use crate::one_point::{at_one_point, is_one_point};
-use crate::points::{are_values_accepted, is_whole, value_costs, whole_costs};
 use crate::propagation::propagated;
 use crate::relaxation::{Relaxed, relax};
 use crate::watch::Watch;
@@ -49,7 +49,8 @@ fn costs_there<S: RowSource>(
     // The point is as before, and the source accepts the same points with the same forms.
     ensures point { point.new ≡ point.old }
     ensures in_step { SameFor (S.in_step source.old) (S.in_step source.new) }
-    ensures same { SameSource S.count S.accepted S.true_form S.candidates source.old source.new }
+    ensures same { SameSource S.count S.accepted S.true_form S.possible_forms source.old
+        source.new }
 {
     if is_whole(point) {
         Ok(Some(whole_costs(alloc, point)?))
@@ -63,8 +64,8 @@ fn costs_there<S: RowSource>(
 /// The Split at one of the candidates.
 fn split_at(candidates: &[Candidate], place: usize) -> Entry
     requires { place < length candidates.now }
-    ensures choice { (choice : Candidate) × (slice_get candidates.now place ≡ Some choice) ×
-        (result ≡ Split choice.var choice.floor) }
+    ensures candidate { (candidate : Candidate) × (slice_get candidates.now place ≡ Some candidate)
+        × (result ≡ Split candidate.var candidate.floor) }
     ensures fractional { (costs : CostBox) (point : Point) → All (IsFractional costs point)
         candidates.now → IsSplitAt costs point result }
 {
@@ -115,7 +116,8 @@ fn at_least_point<S: RowSource>(
     // The desk is as before, and the source accepts the same points with the same forms.
     ensures desk { desk.new ≡ desk.old }
     ensures in_step { SameFor (S.in_step source.old) (S.in_step source.new) }
-    ensures same { SameSource S.count S.accepted S.true_form S.candidates source.old source.new }
+    ensures same { SameSource S.count S.accepted S.true_form S.possible_forms source.old
+        source.new }
 
     // The advisors are asked for a Split at the least accepted point, and for nothing else.
     ensures asked { AreAskedNext ⟦<dyn Advisor as Advisor>⟧ (λ b. b.vtable) (λ b. state b)

@@ -3,10 +3,10 @@ ghost use Rattle.std.specs.Prelude.{◌≡◌, pos, ◌≤ℤ◌, length, All, I
 ghost use Rattle.design_problem.specs.Boxes.{greatest};
 ghost use Rattle.form_search.specs.Calls.{AreInStep, Leaves};
 ghost use Rattle.form_search.specs.Points.{IsCostsBox};
-ghost use Rattle.form_search.specs.Turns.{IsNextOfPoint};
+ghost use Rattle.form_search.specs.NextEntries.{IsNextOfPoint};
 
-use crate::next_entry::Next;
-use crate::points::{low_costs, put_costs};
+use crate::costs_of_points::{low_costs, put_costs};
+use crate::desk::Next;
 use crate::propagation::{first_negative, refute_by};
 use crate::{Asked, FormPool, RowSource};
 use area_graph::Point;

@@ -5,13 +5,13 @@ ghost use Rattle.design_problem.specs.Forms.{AreMet};
 ghost use Rattle.form_search.specs.Calls.{AreInStep, Leaves};
 ghost use Rattle.form_search.specs.Points.{IsCostsBox};
 ghost use Rattle.form_search.specs.Tables.{IsRelaxation, IsRelaxedWith, IsRoundTold, StandsAt};
-ghost use Rattle.form_search.specs.Turns.{HasNew};
+ghost use Rattle.form_search.specs.NextEntries.{HasNew};
 
-use crate::table::{HeldTableau, Least, moved};
+use crate::held_tableau::{HeldTableau, Least, moved};
 use crate::{Asked, FormPool, RowSource};
 use area_graph::Point;
 use cost_base::OutOfMemory;
-use design_problem::{CostBox, Parts, WideAt};
+use design_problem::{CostBox, Multipliers, WideAt};
 use wide_fraction::Top;
 
 /// What the relaxation of a box comes to.
@@ -20,7 +20,7 @@ pub(crate) enum Relaxed {
     /// The least accepted point of the box was put in place.
     Accepted,
     /// No point of the box meets the forms, by these multipliers.
-    Refuted(Parts),
+    Refuted(Multipliers),
     /// A step needed too wide a number.
     Wide(WideAt),
 }

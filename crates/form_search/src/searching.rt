@@ -6,16 +6,16 @@ ghost use Rattle.design_problem.specs.Boxes.{IsBox};
 ghost use Rattle.design_problem.specs.Trees.{IsSingleTree, SoundAt};
 ghost use Rattle.design_problem.specs.Earnest.{IsLeastPoint};
 ghost use Rattle.design_problem.specs.OpenPlaces.{first_place, fresh, grown, undones};
-ghost use Rattle.form_search.specs.Advised.{AreAdvised, AreToldNext};
+ghost use Rattle.form_search.specs.AdvisorsAsked.{AreAdvised, AreToldNext};
 ghost use Rattle.form_search.specs.Calls.{AreInStep, Leaves};
 ghost use Rattle.form_search.specs.Finds.{IsSearchResult};
 ghost use Rattle.form_search.specs.Points.{IsCostsBox};
-ghost use Rattle.form_search.specs.Turns.{IsSoundNext, turned};
+ghost use Rattle.form_search.specs.NextEntries.{IsSoundNext, after_round};
 
 use crate::at_box::next_at;
-use crate::next_entry::{Desk, Next};
+use crate::desk::{Desk, Next};
 use crate::{FormPool, Found, RowSource};
-use cost_base::{Listed, OutOfMemory};
+use cost_base::OutOfMemory;
 use cut_advisors::{Advisor, tell};
 use design_problem::{CostBox, Entry, TreeBuilder};
 use std::alloc::Global;
@@ -32,10 +32,10 @@ fn first_tree(alloc: Global, variables: u32, costs: &CostBox) -> Result<TreeBuil
     }) }
     ensures ranges { OnOk result (IsCostsBox variables costs.now) }
 {
-    let low = costs.low.copy(alloc)?;
-    let highs = costs.high.as_slice();
-    let high = Listed::from_slice(alloc, highs)?;
-    TreeBuilder::start(alloc, CostBox { low, high })
+    // For the prover: that each upper end has 16 bits is known once they are read.
+    let _ = costs.high.as_slice();
+    let copy = costs.copy(alloc)?;
+    TreeBuilder::start(alloc, copy)
 }
 
 /// The tree with one more entry, of which the advisors are told.
@@ -56,7 +56,7 @@ fn with_told(
 }
 
 /// What a tree comes to by what comes next at its open box: the search goes on, or it ends with what it found.
-fn turn(
+fn round(
     tree: TreeBuilder,
     next: Next,
     nodes: u64,
@@ -65,7 +65,7 @@ fn turn(
     requires open { 0 < length tree.places }
     requires sound { IsSoundNext (first_place tree.places).box next }
     requires whole { IsSingleTree (tree.entries ++ undones (length tree.places)) }
-    ensures outcome { IfOk result (λ outcome. outcome ≡ turned nodes tree next) }
+    ensures outcome { IfOk result (λ outcome. outcome ≡ after_round nodes tree next) }
     ensures told { AreToldNext ⟦<dyn Advisor as Advisor>⟧ (λ b. b.vtable) (λ b. state b) next result
         advisors.old.items advisors.new.items }
 {
@@ -121,7 +121,7 @@ pub fn search<S: RowSource>(
     let mut desk = Desk::start(alloc, costs, limits.top)?;
     'boxes: while tree.is_open() {
         let next = next_at(source, pool, advisors, &tree, &mut desk)?;
-        match turn(tree, next, limits.nodes, advisors)? {
+        match round(tree, next, limits.nodes, advisors)? {
             ControlFlow::Continue(longer) => tree = longer,
             ControlFlow::Break(found) => return Ok(found),
         }

@@ -1,25 +1,19 @@
 -- Lists of columns that rise: what they have at a column, at their end, and after their first column.
 use Rattle.std.proofs.Common.{◌≡◌, ◌≢◌, ℕ, zero, suc, ◌+◌, ◌<◌, ◌≤◌, cond, Bool, true, false, refl, sym, ◌∙◌, ap, subst, List, [], ◌∷◌, ◌++◌, length, map, take, drop, arith, inl, inr}
 use Rattle.std.specs.Prelude.{pos, ◌==◌}
-use Rattle.std.proofs.lemmas.Bool.{cases_lt}
+use Rattle.std.proofs.lemmas.Bool.{cases_lt, eq-eqb, ne_eqb}
 use Rattle.std.proofs.lemmas.Bool.Decides.{nat_tests}
 use Rattle.cost_base.proofs.ListLemmas.{each_append}
 use Rattle.whole_numbers.specs.Fractions.{Fraction, IsLowest}
-use Rattle.fraction_rows.specs.TableRows.{IsTableNumber, Rises, fraction_at, nothing}
+use Rattle.fraction_rows.specs.TableLines.{IsTableNumber, Rises, fraction_at, nothing}
 use Rattle.fraction_rows.specs.Entries.{AllNumbers, IsPutAtEnd, head_column, head_fraction, after_column, replaced}
 use Rattle.fraction_rows.proofs.ZeroFractions.{lowest_zero}
 
-pub same_test : (a b : ℕ) → a ≡ b → (a == b) ≡ true
-same_test a b e = grind (arith, nat_tests)
-
-pub other_test : (a b : ℕ) → a ≢ b → (a == b) ≡ false
-other_test a b e = grind (arith, nat_tests)
-
 pub fraction_here : (e : ℕ × Fraction) (es : List (ℕ × Fraction)) (k : ℕ) → e.0 ≡ k → fraction_at (e ∷ es) k ≡ e.1
-fraction_here e es k same = ap (λ b. cond b e.1 (fraction_at es k)) (same_test e.0 k same)
+fraction_here e es k same = ap (λ b. cond b e.1 (fraction_at es k)) (eq-eqb e.0 k same)
 
 pub fraction_there : (e : ℕ × Fraction) (es : List (ℕ × Fraction)) (k : ℕ) → e.0 ≢ k → fraction_at (e ∷ es) k ≡ fraction_at es k
-fraction_there e es k other = ap (λ b. cond b e.1 (fraction_at es k)) (other_test e.0 k other)
+fraction_there e es k other = ap (λ b. cond b e.1 (fraction_at es k)) (ne_eqb e.0 k other)
 
 pub at_below : (low high : ℕ) (es : List (ℕ × Fraction)) (k : ℕ) → Rises low high es → k < low → fraction_at es k ≡ nothing
 at_below low high [] k rises below = refl
@@ -114,11 +108,11 @@ before_head low high past (e ∷ es) k rises before = at_below e.0 high (e ∷ e
 -- nor does taking that column change it
 pub ahead_nothing : (es : List (ℕ × Fraction)) (c past : ℕ) → c < head_column es past → head_fraction es c ≡ nothing
 ahead_nothing [] c past ahead = refl
-ahead_nothing (e ∷ es) c past ahead = ap (λ b. cond b e.1 nothing) (other_test e.0 c (omega arith))
+ahead_nothing (e ∷ es) c past ahead = ap (λ b. cond b e.1 nothing) (ne_eqb e.0 c (λ same. omega (arith, same)))
 
 pub ahead_same : (es : List (ℕ × Fraction)) (c past : ℕ) → c < head_column es past → after_column es c ≡ es
 ahead_same [] c past ahead = refl
-ahead_same (e ∷ es) c past ahead = ap (λ b. cond b es (e ∷ es)) (other_test e.0 c (omega arith))
+ahead_same (e ∷ es) c past ahead = ap (λ b. cond b es (e ∷ es)) (ne_eqb e.0 c (λ same. omega (arith, same)))
 
 -- the first column is where the list may rise from
 pub head_from : (low high : ℕ) (es : List (ℕ × Fraction)) → Rises low high es → low ≤ high → low ≤ head_column es high

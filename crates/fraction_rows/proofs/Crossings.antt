@@ -2,7 +2,7 @@
 use Rattle.std.proofs.Common.{◌≡◌, ◌≢◌, ℕ, suc, ◌<◌, ◌≤◌, sym, ◌∙◌, ap, subst, List, [], length, arith, inl, inr, min}
 use Rattle.std.proofs.lemmas.Bool.{cases_lt}
 use Rattle.whole_numbers.specs.Fractions.{Fraction, IsLowest}
-use Rattle.fraction_rows.specs.TableRows.{Rises, fraction_at, nothing}
+use Rattle.fraction_rows.specs.TableLines.{Rises, fraction_at, nothing}
 use Rattle.fraction_rows.specs.Entries.{IsMade, IsPutAtEnd, head_column, head_fraction, after_column}
 use Rattle.fraction_rows.proofs.Columns.{at_above, rises_widen, head_at, after_rises, after_at, before_head, head_from, ends_empty, rises_length, put_rises, put_here, put_other}
 

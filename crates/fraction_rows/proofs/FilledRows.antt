@@ -8,9 +8,9 @@ use Rattle.cost_base.proofs.ListLemmas.{length-map-numbers_from, map-numbers_fro
 use Rattle.whole_numbers.specs.Fractions.{Fraction, minus, times, divided}
 use Rattle.wide_fraction.specs.declared.steps.Wide.{Wide}
 use Rattle.design_problem.specs.Basis.{entry}
-use Rattle.fraction_rows.specs.TableRows.{AreTableNumbers, IsCrossStep, IsDivideStep, IsTableNumber, IsWideStep, Rises, crossed_by, divided_without, filled, fraction_at, nothing}
-use Rattle.fraction_rows.specs.TableRows.IsCrossStep.{product, difference}
-use Rattle.fraction_rows.specs.TableRows.IsDivideStep.{quotient}
+use Rattle.fraction_rows.specs.TableLines.{AreTableNumbers, IsCrossStep, IsDivideStep, IsTableNumber, IsWideStep, Rises, crossed_by, divided_without, filled, fraction_at, nothing}
+use Rattle.fraction_rows.specs.TableLines.IsCrossStep.{product, difference}
+use Rattle.fraction_rows.specs.TableLines.IsDivideStep.{quotient}
 use Rattle.fraction_rows.specs.Entries.{AllNumbers, IsCrossingTooWide, IsDivisionTooWide, IsMade, IsQuotientStep, IsTermStep, crossed_at, divided_at}
 use Rattle.fraction_rows.proofs.ZeroFractions.{nothing_number}
 use Rattle.fraction_rows.proofs.Columns.{fraction_here, fraction_there, test_cases}

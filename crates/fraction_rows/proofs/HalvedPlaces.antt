@@ -3,10 +3,11 @@ use Rattle.std.proofs.Common.{◌≡◌, ◌≢◌, ℕ, zero, suc, ◌+◌, ◌
 use Rattle.std.specs.Prelude.{◌==◌, slice_set, slice_index_or}
 use Rattle.std.proofs.lemmas.List.{append_assoc, append-nil, length-append, take-append-drop}
 use Rattle.std.proofs.lemmas.List.Elements.{All-append, All-cons, All-head, All-nil, All-tail}
+use Rattle.std.proofs.lemmas.Bool.{ne_eqb}
 use Rattle.whole_numbers.specs.Fractions.{Fraction}
-use Rattle.fraction_rows.specs.TableRows.{Rises, fraction_at, nothing}
+use Rattle.fraction_rows.specs.TableLines.{Rises, fraction_at, nothing}
 use Rattle.fraction_rows.specs.Entries.{IsHalfOf, IsPlaceOf, IsWithout, head_column, replaced}
-use Rattle.fraction_rows.proofs.Columns.{fraction_there, other_test, rises_from}
+use Rattle.fraction_rows.proofs.Columns.{fraction_there, rises_from}
 
 abbrev Entries : Type 0
 Entries = List (ℕ × Fraction)
@@ -116,7 +117,7 @@ half_has es column place left h =
     ahead (e ∷ l) = ap (λ f. cond (e.0 == column) e.1 f) (ahead l)
 
 apart_stays : (column : ℕ) (value : Fraction) (e : ℕ × Fraction) → e.0 ≢ column → replaced column value e ≡ e
-apart_stays column value e apart = ap (λ b. cond b (e.0, value) e) (other_test e.0 column apart)
+apart_stays column value e apart = ap (λ b. cond b (e.0, value) e) (ne_eqb e.0 column apart)
 
 -- a list that lacks the column stays as it is
 pub without_stays : (column : ℕ) (value : Fraction) (es : Entries) → IsWithout column es → map (replaced column value) es ≡ es

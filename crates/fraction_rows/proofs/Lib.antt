@@ -3,7 +3,7 @@ pub mod Columns
 pub mod Crossings
 pub mod NamedSteps
 pub mod FilledRows
-pub mod BlankRows
+pub mod BlankLines
 pub mod NoStep
 pub mod SmallNumbers
 pub mod RowLaws

@@ -6,7 +6,7 @@ use Rattle.std.proofs.lemmas.Nat.Bits.{bit_at_or, bit_at_set_same}
 use mir.Syntax.{w128}
 use Rattle.std.proofs.lemmas.List.Elements.{All-nil, All-cons, All-head, All-tail, All-push, All-weaker}
 use Rattle.whole_numbers.specs.Fractions.{Fraction}
-use Rattle.fraction_rows.specs.TableRows.{fraction_at, nothing}
+use Rattle.fraction_rows.specs.TableLines.{fraction_at, nothing}
 use Rattle.fraction_rows.specs.Entries.{IsPutAtEnd, replaced}
 use Rattle.fraction_rows.specs.declared.marks.Marks.{Marks}
 use Rattle.fraction_rows.specs.Marks.{AllMarked, IsColumnMarked, IsSet}

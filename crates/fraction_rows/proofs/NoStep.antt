@@ -9,7 +9,7 @@ use Rattle.cost_base.proofs.ListLemmas.{all_from_each}
 use Rattle.whole_numbers.specs.Fractions.{Fraction, gcd, gcd_within, numbers_of_step}
 use Rattle.whole_numbers.proofs.Divisors.{gcd-one}
 use Rattle.whole_numbers.proofs.Ring.{var, num, ◌⊗◌, ring}
-use Rattle.fraction_rows.specs.TableRows.{IsTableNumber, nothing}
+use Rattle.fraction_rows.specs.TableLines.{IsTableNumber, nothing}
 
 none_passes : (top : ℕ) (ns : List ℕ) → AllByRecursion (λ n. n ≤ top) ns → Any (λ n. top < n) ns → ⊥
 none_passes top ns most any =

@@ -1,7 +1,7 @@
 -- The steps of a pivot are steps of the basis.
 use Rattle.std.proofs.Common.{◌≡◌, ◌≢◌, ℕ, zero, suc, ◌+◌, ◌<◌, cond, sym, ◌∙◌, ap, subst, List, [], ◌∷◌, length, arith, inl, inr, zero-add}
 use Rattle.std.specs.Prelude.{pos, ◌==◌, Any}
-use Rattle.std.proofs.lemmas.Bool.{cases_eq}
+use Rattle.std.proofs.lemmas.Bool.{cases_eq, eq-eqb, ne_eqb}
 use Rattle.cost_base.specs.declared.StepName.{StepName}
 use Rattle.cost_base.specs.declared.StepName.TheVariants.{Sub, Mul, Div}
 use Rattle.whole_numbers.specs.Fractions.{Fraction, divided, numbers_of_step, times, whole}
@@ -11,13 +11,12 @@ use Rattle.design_problem.specs.declared.tree.Member.{Member}
 use Rattle.design_problem.specs.Basis.{HasEntries, IsFormOf, entry}
 use Rattle.design_problem.specs.Steps.{IsPivot, IsTableStep}
 use Rattle.design_problem.specs.Steps.IsTableStep.{pivot_quotient, pivot_inverse, pivot_product, pivot_inverse_product, pivot_difference}
-use Rattle.fraction_rows.specs.TableRows.{AreTableNumbers, IsCrossStep, IsDivideStep, divided_without, nothing}
-use Rattle.fraction_rows.specs.TableRows.IsCrossStep.{product, difference}
-use Rattle.fraction_rows.specs.TableRows.IsDivideStep.{quotient}
+use Rattle.fraction_rows.specs.TableLines.{AreTableNumbers, IsCrossStep, IsDivideStep, divided_without, nothing}
+use Rattle.fraction_rows.specs.TableLines.IsCrossStep.{product, difference}
+use Rattle.fraction_rows.specs.TableLines.IsDivideStep.{quotient}
 use Rattle.fraction_rows.specs.Turns.{IsQuotientStepOf, IsTurnStep}
 use Rattle.fraction_rows.specs.Turns.IsQuotientStepOf.{dividing, inverting}
 use Rattle.fraction_rows.specs.Turns.IsTurnStep.{crossing, entering}
-use Rattle.fraction_rows.proofs.Columns.{same_test, other_test}
 use Rattle.fraction_rows.proofs.ZeroFractions.{times_nothing}
 use Rattle.fraction_rows.proofs.RowLaws.{number_at}
 use Rattle.fraction_rows.proofs.NoStep.{no_difference, no_product}
@@ -52,17 +51,17 @@ quotient_at left_out (suc place) start q (e ∷ es) place_in =
 
 pub quotient_own : (j : ℕ) (q : Fraction) (es : List Fraction) → j < length es → entry (divided_without j q es 0) j ≡ nothing
 quotient_own j q es j_in =
-    quotient_at j j 0 q es j_in ∙ ap (λ b. cond b nothing (divided (entry es j) q)) (same_test (0 + j) j (zero-add j))
+    quotient_at j j 0 q es j_in ∙ ap (λ b. cond b nothing (divided (entry es j) q)) (eq-eqb (0 + j) j (zero-add j))
 
 quotient_other : (j place : ℕ) (q : Fraction) (es : List Fraction) → place ≢ j → place < length es →
     entry (divided_without j q es 0) place ≡ divided (entry es place) q
 quotient_other j place q es other place_in =
     quotient_at j place 0 q es place_in
     ∙ ap (λ b. cond b nothing (divided (entry es place) q))
-    (other_test (0 + place) j (λ same. other (sym (zero-add place) ∙ same)))
+    (ne_eqb (0 + place) j (λ same. other (sym (zero-add place) ∙ same)))
 
--- A crossing of a line with the quotients: a step with a quotient that isn't 0 is one of the basis, and one with 0 makes
--- no number that passes the top.
+-- A crossing of a line with the quotients: a step with a quotient that isn't 0 is one of the basis, and one with 0
+-- makes no number that passes the top.
 crossing_is_step : (top : ℕ) (costs : CostBox) (rows : List Form) (basis : List Member) (lows : List (List Fraction))
     (r f : Member) (es fs : List Fraction) (j : ℕ) → IsFormLine top costs rows basis r es → IsPivot basis es j →
     IsFormLine top costs rows basis f fs → (step : StepName) (left right : Fraction) →

@@ -12,9 +12,9 @@ use Rattle.whole_numbers.proofs.Sizes.{negated_size}
 use Rattle.wide_fraction.specs.Widths.{IsTop, IsWithin}
 use Rattle.wide_fraction.proofs.Quotients.{zero_stands}
 use Rattle.design_problem.specs.Basis.{entry}
-use Rattle.fraction_rows.specs.TableRows.{AreTableNumbers, IsTableNumber, crossed_by, nothing}
+use Rattle.fraction_rows.specs.TableLines.{AreTableNumbers, IsTableNumber, crossed_by, nothing}
 use Rattle.fraction_rows.specs.Sums.{ArePut}
-use Rattle.fraction_rows.specs.Turns.{AreTableRows}
+use Rattle.fraction_rows.specs.Turns.{AreTableLines}
 use Rattle.fraction_rows.proofs.ZeroFractions.{times_lowest, crossed_nothing}
 use Rattle.fraction_rows.proofs.SmallNumbers.{whole_number}
 
@@ -73,14 +73,14 @@ one_within top q q_is =
     }
 
 -- each of the rows has their length, and numbers of the table
-pub rows_at : (top count : ℕ) (rows : List (List Fraction)) (k : ℕ) (d : List Fraction) → AreTableRows top count rows →
+pub rows_at : (top count : ℕ) (rows : List (List Fraction)) (k : ℕ) (d : List Fraction) → AreTableLines top count rows →
     k < length rows → (length (slice_index_or rows k d) ≡ count) × AreTableNumbers top (slice_index_or rows k d)
 rows_at top count [] k d are k_in = absurd (omega arith)
 rows_at top count (fs ∷ rows) zero d are k_in = (are.0, are.1)
 rows_at top count (fs ∷ rows) (suc k) d are k_in = rows_at top count rows k d are.2 (omega arith)
 
-pub rows_set : (top count : ℕ) (rows : List (List Fraction)) (k : ℕ) (line : List Fraction) → AreTableRows top count rows →
-    length line ≡ count → AreTableNumbers top line → AreTableRows top count (slice_set rows k line)
+pub rows_set : (top count : ℕ) (rows : List (List Fraction)) (k : ℕ) (line : List Fraction) → AreTableLines top count rows →
+    length line ≡ count → AreTableNumbers top line → AreTableLines top count (slice_set rows k line)
 rows_set top count [] k line fit counted numbers = tt
 rows_set top count (fs ∷ rows) zero line fit counted numbers = (counted, numbers, fit.2)
 rows_set top count (fs ∷ rows) (suc k) line fit counted numbers = (fit.0, fit.1, rows_set top count rows k line fit.2 counted numbers)

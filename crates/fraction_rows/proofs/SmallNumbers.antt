@@ -5,7 +5,7 @@ use Rattle.std.proofs.Math.Pow.{pow_mono}
 use Rattle.whole_numbers.specs.Fractions.{whole}
 use Rattle.whole_numbers.proofs.Divisors.{gcd-one}
 use Rattle.wide_fraction.specs.Widths.{IsTop}
-use Rattle.fraction_rows.specs.TableRows.{IsTableNumber}
+use Rattle.fraction_rows.specs.TableLines.{IsTableNumber}
 
 -- a top has at most 127 bits, and isn't 0
 pub top_small : (top : ℕ) → IsTop top → top < 2 ^ 127

@@ -13,8 +13,8 @@ use Rattle.design_problem.specs.Basis.{entry}
 use Rattle.design_problem.specs.Forms.{terms_from, no_term}
 use Rattle.design_problem.specs.Steps.{terms}
 use Rattle.design_problem.proofs.TermLaws.{each_term, moved}
-use Rattle.fraction_rows.specs.TableRows.{AreTableNumbers}
-use Rattle.fraction_rows.specs.Turns.{AreTableRows}
+use Rattle.fraction_rows.specs.TableLines.{AreTableNumbers}
+use Rattle.fraction_rows.specs.Turns.{AreTableLines}
 use Rattle.fraction_rows.specs.Sums.{IsSumStep, IsTermSum, product, sum, sum_of_terms}
 use Rattle.fraction_rows.proofs.RowLaws.{rows_at}
 
@@ -90,7 +90,7 @@ pub record IsLineOf (top count : ℕ) (lines : List (List Fraction)) (t : Term) 
   pub small : nat_abs t.coefficient ≤ 2 ^ 26
 
 pub line_read : (top count : ℕ) (cs : List ℤ) (lines : List (List Fraction)) (ts : List Term) (index : ℕ)
-    (line : List Fraction) → ts ≡ terms_from 0 cs → All (λ z. nat_abs z ≤ 2 ^ 26) cs → AreTableRows top count lines →
+    (line : List Fraction) → ts ≡ terms_from 0 cs → All (λ z. nat_abs z ≤ 2 ^ 26) cs → AreTableLines top count lines →
     length cs ≤ length lines → index < length ts → line ≡ slice_index_or lines (term_in ts index).var line →
     IsLineOf top count lines (term_in ts index) line
 line_read top count cs lines ts index line ts_are small rows many index_in read_is =

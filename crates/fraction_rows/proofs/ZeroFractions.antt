@@ -8,7 +8,7 @@ use Rattle.whole_numbers.proofs.FractionLaws.{reduced_lowest, product_positive, 
 use Rattle.whole_numbers.proofs.Multiples.{minus_stands_over}
 use Rattle.wide_fraction.specs.Widths.{IsWithin}
 use Rattle.wide_fraction.proofs.Quotients.{zero_stands}
-use Rattle.fraction_rows.specs.TableRows.{nothing, IsTableNumber}
+use Rattle.fraction_rows.specs.TableLines.{nothing, IsTableNumber}
 
 pub nothing_lowest : IsLowest nothing
 nothing_lowest = record { positive = omega arith; lowest = refl }

@@ -1,11 +1,12 @@
 -- Words on lists of columns that the work on a row goes along.
 use Rattle.std.specs.declared.alloc.Global.{Global}
-use Rattle.std.specs.Prelude.{◌≡◌, ◌≢◌, ◌⊎◌, ℕ, ◌==◌, ◌<◌, ◌≤◌, Vec, List, [], ◌∷◌, ◌++◌, length, pos, if◌then◌else◌, vec_capacity, All, Any}
+use Rattle.std.specs.Prelude.{◌≡◌, ◌≢◌, ◌⊎◌, ℕ, ◌==◌, ◌<◌, ◌≤◌, Vec, List, [], ◌∷◌, ◌++◌, length, pos, if◌then◌else◌, vec_capacity, All}
 use Rattle.std.specs.List.{AllByRecursion}
 use Rattle.cost_base.specs.declared.StepName.TheVariants.{Sub, Mul, Div}
-use Rattle.whole_numbers.specs.Fractions.{Fraction, minus, times, divided, numbers_of_step}
+use Rattle.whole_numbers.specs.Fractions.{Fraction, minus, times, divided}
 use Rattle.wide_fraction.specs.declared.steps.Wide.{Wide}
-use Rattle.fraction_rows.specs.TableRows.{IsTableNumber, Rises, fraction_at, nothing}
+use Rattle.wide_fraction.specs.Widths.{Passes}
+use Rattle.fraction_rows.specs.TableLines.{IsTableNumber, Rises, fraction_at, nothing}
 
 -- the list with the fraction put at its end, unless that is 0
 abbrev pub IsPutAtEnd : List (ℕ × Fraction) → ℕ → Fraction → List (ℕ × Fraction) → Type 0
@@ -50,7 +51,7 @@ pub record HasRowEntries (width top : ℕ) (es : Vec (ℕ × Fraction) Global) :
   pub entries : AreRowEntries width top es.items
   pub room : width ≤ vec_capacity es
 
--- the new list has at each column what the target makes of the fractions that the two have there
+-- a list is made of two others column by column: its fraction is what a function of the column makes of theirs
 abbrev pub IsMade : ℕ → (ℕ → Fraction → Fraction → Fraction) → List (ℕ × Fraction) → List (ℕ × Fraction) → List (ℕ × Fraction) → Type 0
 IsMade width target first second new =
     (column : ℕ) → column < width → fraction_at new column ≡ target column (fraction_at first column) (fraction_at second column)
@@ -63,9 +64,9 @@ crossed_at factor column old quotient = minus old (times factor quotient)
 abbrev pub divided_at : ℕ → Fraction → ℕ → Fraction → Fraction → Fraction
 divided_at left_out divisor column value other = if column == left_out then nothing else divided value divisor
 
--- the step makes a whole number that passes the top
+-- a step that a refusal names makes a whole number that passes the top
 abbrev pub IsPassing : ℕ → Wide → Type 0
-IsPassing top wide = Any (λ n. top < n) (numbers_of_step wide.step wide.left wide.right)
+IsPassing top wide = Passes top wide.step wide.left wide.right
 
 -- a step by which the two are crossed at some column makes a whole number that passes the top
 pub record IsCrossingTooWide (width top : ℕ) (factor : Fraction) (olds quotients : List (ℕ × Fraction)) (wide : Wide) : Type 0 where
@@ -93,7 +94,8 @@ replaced column value e = if e.0 == column then (e.0, value) else e
 abbrev pub IsWithout : ℕ → List (ℕ × Fraction) → Type 0
 IsWithout column es = All (λ e. e.0 ≢ column) es
 
--- what is left of the list, and what stands around it without the column, so much before it
+-- the half of a list in which a column may still stand, as a search by halves leaves it: it begins at this place, and
+-- neither before nor behind it the column stands
 pub record IsHalfOf (es : List (ℕ × Fraction)) (column place : ℕ) (left : List (ℕ × Fraction)) : Type 0 where
   pub before : List (ℕ × Fraction)
   pub after : List (ℕ × Fraction)

@@ -1,4 +1,4 @@
-pub mod TableRows
+pub mod TableLines
 pub mod Entries
 pub mod Turns
 pub mod Sums

@@ -1,5 +1,5 @@
--- Marks of columns: a bit of 128 for each column, shared by those that are equal up to a multiple of 128, and one shared
--- by neighbours.
+-- Marks of columns: a bit of 128 for each column, shared by those that are equal up to a multiple of 128, and one
+-- shared by neighbours.
 use Rattle.std.specs.Prelude.{◌≢◌, ℕ, ◌/◌, ◌%◌, List, All}
 use Rattle.std.specs.Int.{bit_at}
 use Rattle.whole_numbers.specs.Fractions.{Fraction}

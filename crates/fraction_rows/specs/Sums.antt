@@ -5,7 +5,7 @@ use Rattle.whole_numbers.specs.Fractions.{Fraction, plus, times, whole}
 use Rattle.wide_fraction.specs.declared.steps.Wide.{Wide}
 use Rattle.design_problem.specs.Basis.{entry}
 use Rattle.design_problem.specs.Steps.{terms}
-use Rattle.fraction_rows.specs.Turns.{AreTableRows}
+use Rattle.fraction_rows.specs.Turns.{AreTableLines}
 
 -- the steps by which a coefficient's term is put to a sum
 abbrev pub IsTermSum : Fraction → ℤ → Fraction → Wide → Type 0
@@ -30,7 +30,7 @@ pub data IsSumStep (start : Fraction) (cs : List ℤ) (lines : List (List Fracti
 
 -- the lines of so many variables at least, each of so many numbers of the table
 pub record AreVariableLines (top count variables : ℕ) (lines : List (List Fraction)) : Type 0 where
-  pub rows : AreTableRows top count lines
+  pub rows : AreTableLines top count lines
   pub many : variables ≤ length lines
 
 -- a multiple of a line is put to a row, place by place

@@ -4,7 +4,7 @@ use Rattle.cost_base.specs.declared.StepName.{StepName}
 use Rattle.cost_base.specs.declared.StepName.TheVariants.{Div, Mul}
 use Rattle.whole_numbers.specs.Fractions.{Fraction, divided, times, whole}
 use Rattle.design_problem.specs.Basis.{entry}
-use Rattle.fraction_rows.specs.TableRows.{AreTableNumbers, IsCrossStep, IsDivideStep, IsTableNumber, IsTableRow, IsWideStep, crossed_by, divided_without, nothing}
+use Rattle.fraction_rows.specs.TableLines.{AreTableNumbers, IsCrossStep, IsDivideStep, IsTableNumber, IsCountedLine, IsWideStep, crossed_by, divided_without, nothing}
 
 -- one list where a number is 0, and another where it isn't
 abbrev pub unless_none : ℤ → List Fraction → List Fraction → List Fraction
@@ -38,15 +38,15 @@ pub record IsPivotDivided (top place : ℕ) (rs quotients : List Fraction) (inve
 -- Quotients with 0 at the place and an inverse that isn't 0, by which a pivot turns rows of so many numbers.
 pub record TurnsRows (top count place : ℕ) (quotients : List Fraction) (inverse : Fraction) : Type 0 where
   pub place_in : place < count
-  pub row : IsTableRow top count quotients
+  pub row : IsCountedLine top count quotients
   pub none_there : entry quotients place ≡ nothing
   pub inverse_number : IsTableNumber top inverse
   pub not_zero : inverse.numerator ≢ pos 0
 
 -- rows of one length, of numbers of the table
-abbrev pub AreTableRows : ℕ → ℕ → List (List Fraction) → Type 0
-AreTableRows top count [] = Unit {0}
-AreTableRows top count (fs ∷ rows) = (length fs ≡ count) × AreTableNumbers top fs × AreTableRows top count rows
+abbrev pub AreTableLines : ℕ → ℕ → List (List Fraction) → Type 0
+AreTableLines top count [] = Unit {0}
+AreTableLines top count (fs ∷ rows) = (length fs ≡ count) × AreTableNumbers top fs × AreTableLines top count rows
 
 -- a step by which some row is turned makes a whole number that passes the top
 pub record TurnsWide (top : ℕ) (rows : List (List Fraction)) (ts : List Fraction) (place : ℕ) (inverse : Fraction)

@@ -2,7 +2,7 @@
 ghost use Rattle.std.specs.Prelude.{◌≡◌, ◌≢◌, ℕ, ◌<◌, ◌≤◌, [], length, map, min, nat_abs, pos, ◌-ℤ◌, ◌*ℤ◌, vec_len, IfOk, IfErr, IfSome, OnOk};
 ghost use Rattle.std.specs.Vec.{vec_capacity};
 ghost use Rattle.whole_numbers.specs.Fractions.{minus, times, whole};
-ghost use Rattle.fraction_rows.specs.TableRows.{IsTableNumber, fraction_at, nothing};
+ghost use Rattle.fraction_rows.specs.TableLines.{IsTableNumber, fraction_at, nothing};
 ghost use Rattle.fraction_rows.specs.Entries.{AreRising, AreRowEntries, HasRowEntries, IsCrossingTooWide, IsDivisionTooWide, IsHalfOf, IsMade};
 ghost use Rattle.fraction_rows.specs.Entries.{IsPassing, IsPlaceOf, IsPutAtEnd, IsQuotientStep, IsTermStep, after_column};
 ghost use Rattle.fraction_rows.specs.Entries.{crossed_at, divided_at, head_column, head_fraction, replaced};

@@ -5,8 +5,8 @@ mod entries;
 mod marks;
 mod row;
 mod sum;
-mod turn;
+mod turned_row;
 
-pub use row::TableRow;
+pub use row::TableLine;
 pub use sum::{sum_at, sum_lines};
-pub use turn::{PivotColumn, take_quotients, turn_row, turn_rows};
+pub use turned_row::{PivotColumn, take_quotients, turn_rows};

@@ -2,8 +2,8 @@
 ghost use Rattle.std.specs.Prelude.{◌≡◌, ◌≢◌, ℕ, suc, true, ◌<◌, ◌≤◌, ◌-◌, ◌∷◌, length, pos, slice_set, IfOk, IfErr, OnOk};
 ghost use Rattle.whole_numbers.specs.Fractions.{IsLowest};
 ghost use Rattle.design_problem.specs.Basis.{entry};
-ghost use Rattle.fraction_rows.specs.TableRows.{AreTableNumbers, IsCrossStep, IsDivideStep, IsTableNumber, IsTableRow, IsWideStep, Rises};
-ghost use Rattle.fraction_rows.specs.TableRows.{blank_row, crossed_by, divided_without, filled, nothing};
+ghost use Rattle.fraction_rows.specs.TableLines.{AreTableNumbers, IsCrossStep, IsDivideStep, IsTableNumber, IsCountedLine, IsWideStep, Rises};
+ghost use Rattle.fraction_rows.specs.TableLines.{blank_line, crossed_by, divided_without, filled, nothing};
 
 use crate::entries::{
     Extent, cross_entries, crossed, divide_entries, find_fraction, put_entry, replace_fraction,
@@ -18,18 +18,18 @@ use wide_fraction::{Frac, Top, Wide, div};
 /// column, zeros too. It holds the columns that aren't 0 alone, with marks that most zeros lack, and has room for all
 /// of them, so that no step on it takes memory.
 #[derive(Drop)]
-pub struct TableRow {
+pub struct TableLine {
     constant: Frac,
     width: u32,
     marks: Marks,
     entries: Vec<(u32, Frac)>,
 }
 
-impl Model for TableRow {
+impl Model for TableLine {
     ghost use Rattle.std.specs.Prelude.{ℕ, ◌≤◌, List, ◌∷◌};
     ghost use Rattle.std.specs.Vec.{vec_capacity};
     ghost use Rattle.whole_numbers.specs.Fractions.{Fraction};
-    ghost use Rattle.fraction_rows.specs.TableRows.{Rises, filled};
+    ghost use Rattle.fraction_rows.specs.TableLines.{Rises, filled};
     ghost use Rattle.fraction_rows.specs.Marks.{AllMarked};
 
     ghost Value = { List Fraction };
@@ -43,17 +43,17 @@ impl Model for TableRow {
     } };
 }
 
-impl TableRow {
+impl TableLine {
     /// The row of zeros, with room for `width` columns.
     ///
     /// # Errors
     ///
     /// `OutOfMemory` where the row got no memory.
-    pub fn zero(alloc: Global, width: u32) -> Result<TableRow, OutOfMemory>
-        ensures { IfOk result (λ row. row ≡ blank_row width) }
+    pub fn zero(alloc: Global, width: u32) -> Result<TableLine, OutOfMemory>
+        ensures { IfOk result (λ row. row ≡ blank_line width) }
     {
         let entries = Vec::with_capacity(alloc, width as usize)?;
-        Ok(TableRow {
+        Ok(TableLine {
             constant: Frac::whole(0),
             width,
             marks: no_marks(),
@@ -117,7 +117,7 @@ impl TableRow {
 
     /// Makes all of it 0. It keeps its room.
     pub fn clear(&mut self)
-        ensures { self.new ≡ blank_row (length self.old - 1) }
+        ensures { self.new ≡ blank_line (length self.old - 1) }
     {
         self.constant = Frac::whole(0);
         self.entries.clear();
@@ -155,12 +155,12 @@ impl TableRow {
     pub fn cross(
         &self,
         factor: Frac,
-        quotients: &TableRow,
-        into: &mut TableRow,
+        quotients: &TableLine,
+        into: &mut TableLine,
         top: Top,
     ) -> Result<(), Wide>
         // The three rows have one width, and the numbers that are crossed are those of the table.
-        requires quotients { IsTableRow top (length self.now) quotients.now }
+        requires quotients { IsCountedLine top (length self.now) quotients.now }
         requires into { length into.old ≡ length self.now }
         requires numbers { AreTableNumbers top self.now }
         requires factor { IsTableNumber top factor }
@@ -201,7 +201,7 @@ impl TableRow {
         &self,
         divisor: Frac,
         left_out: u32,
-        into: &mut TableRow,
+        into: &mut TableLine,
         top: Top,
     ) -> Result<(), Wide>
         // Both rows have one width, and the divisor is a number of the table that isn't 0.

@@ -4,10 +4,10 @@ ghost use Rattle.whole_numbers.specs.Fractions.{plus, times, whole};
 ghost use Rattle.design_problem.specs.Basis.{entry};
 ghost use Rattle.fraction_rows.specs.Entries.{IsPassing};
 ghost use Rattle.fraction_rows.specs.Sums.{ArePut, AreVariableLines, IsSumStep, IsTermSum, sum_of_terms};
-ghost use Rattle.fraction_rows.specs.TableRows.{AreTableNumbers, IsTableNumber, IsTableRow};
-ghost use Rattle.fraction_rows.specs.Turns.{AreTableRows};
+ghost use Rattle.fraction_rows.specs.TableLines.{AreTableNumbers, IsTableNumber, IsCountedLine};
+ghost use Rattle.fraction_rows.specs.Turns.{AreTableLines};
 
-use crate::row::TableRow;
+use crate::row::TableLine;
 use design_problem::Form;
 use std::mem;
 use wide_fraction::{Frac, Top, Wide, add, mul};
@@ -17,7 +17,7 @@ use wide_fraction::{Frac, Top, Wide, add, mul};
 fn add_term(
     sum: Frac,
     coefficient: i64,
-    line: &TableRow,
+    line: &TableLine,
     place: u32,
     top: Top,
 ) -> Result<Frac, Wide>
@@ -55,14 +55,14 @@ fn add_term(
 pub fn sum_at(
     start: Frac,
     form: &Form,
-    lines: &[TableRow],
+    lines: &[TableLine],
     place: u32,
     top: Top,
 ) -> Result<Frac, Wide>
     // There is a line for each variable, and coefficients are at most 2^26 in size.
     requires start { IsTableNumber top start }
     requires small { All (λ c. nat_abs c ≤ 2 ^ 26) form.now.coefficients }
-    requires lines { (count : ℕ) × (place < count) × AreTableRows top count lines.now }
+    requires lines { (count : ℕ) × (place < count) × AreTableLines top count lines.now }
     requires many { length form.now.coefficients ≤ length lines.now }
 
     // On Ok the sum of all terms is exact, and a number of the table.
@@ -91,14 +91,14 @@ pub fn sum_at(
 ///
 /// `Wide` where a step makes a whole number that passes `top`. Then the row is as before.
 fn put_line(
-    row: &mut TableRow,
+    row: &mut TableLine,
     coefficient: i64,
-    line: &TableRow,
-    scratch: &mut TableRow,
+    line: &TableLine,
+    scratch: &mut TableLine,
     top: Top,
 ) -> Result<(), Wide>
     // All three rows have one width, and the coefficient is at most 2^26 in size.
-    requires line { IsTableRow top (length row.old) line.now }
+    requires line { IsCountedLine top (length row.old) line.now }
     requires scratch { length scratch.old ≡ length row.old }
     requires numbers { AreTableNumbers top row.old }
     requires small { nat_abs coefficient ≤ 2 ^ 26 }
@@ -125,10 +125,10 @@ fn put_line(
 ///
 /// `Wide` where one of these steps makes a whole number that passes `top`. Then the row has some of the terms.
 pub fn sum_lines(
-    row: &mut TableRow,
+    row: &mut TableLine,
     form: &Form,
-    lines: &[TableRow],
-    scratch: &mut TableRow,
+    lines: &[TableLine],
+    scratch: &mut TableLine,
     top: Top,
 ) -> Result<(), Wide>
     // Each variable has a line of the row's width, and coefficients are at most 2^26 in size.

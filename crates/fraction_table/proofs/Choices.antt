@@ -11,7 +11,7 @@ use Rattle.design_problem.specs.Basis.{entry}
 use Rattle.design_problem.specs.Steps.{IsPivot, IsTableStep, IsStepTooWide}
 use Rattle.design_problem.specs.Steps.IsTableStep.{pivot_product}
 use Rattle.fraction_table.specs.declared.table.Table.{Table}
-use Rattle.fraction_rows.specs.TableRows.IsDivideStep.{quotient}
+use Rattle.fraction_rows.specs.TableLines.IsDivideStep.{quotient}
 use Rattle.fraction_rows.specs.Entries.{IsPassing}
 use Rattle.fraction_table.specs.Tableaus.{wide_at}
 use Rattle.fraction_rows.specs.Turns.{IsQuotientStepOf}

@@ -13,9 +13,9 @@ use Rattle.whole_numbers.proofs.Multiples.{plus_stands_over}
 use Rattle.wide_fraction.specs.Widths.{IsWithin}
 use Rattle.wide_fraction.specs.declared.steps.Wide.{Wide}
 use Rattle.design_problem.specs.Basis.{entry}
-use Rattle.fraction_rows.specs.TableRows.{AreTableNumbers, IsTableNumber, nothing}
+use Rattle.fraction_rows.specs.TableLines.{AreTableNumbers, IsTableNumber, nothing}
 use Rattle.fraction_rows.specs.Entries.{IsPassing}
-use Rattle.fraction_rows.specs.Turns.{AreTableRows}
+use Rattle.fraction_rows.specs.Turns.{AreTableLines}
 use Rattle.design_problem.specs.declared.tree.Member.{Member}
 use Rattle.fraction_table.specs.Moves.{IsColumnOf, ShiftsWide, put_at, raised_line, shifted_lines}
 use Rattle.fraction_rows.proofs.ZeroFractions.{lowest_zero, nothing_number, nothing_times, times_lowest}
@@ -75,8 +75,8 @@ raised_numbers top line now fall value first product constant numbers first_is v
 
 -- a line whose constant is made 0
 pub zeroed : (top count : ℕ) (lines : List (List Fraction)) (own : ℕ) (d now : List Fraction) (value : Fraction) →
-    AreTableRows top count lines → own < length lines → value ≡ nothing →
-    now ≡ slice_set (slice_index_or lines own d) 0 value → AreTableRows top count (slice_set lines own now)
+    AreTableLines top count lines → own < length lines → value ≡ nothing →
+    now ≡ slice_set (slice_index_or lines own d) 0 value → AreTableLines top count (slice_set lines own now)
 zeroed top count lines own d now value rows own_in value_is now_is =
     let here = rows_at top count lines own d rows own_in in
     let line = slice_index_or lines own d in

@@ -16,7 +16,7 @@ use Rattle.design_problem.specs.declared.tree.Member.TheVariants.{Low, High, Row
 use Rattle.design_problem.specs.Boxes.{with_high, with_low}
 use Rattle.design_problem.specs.Forms.{no_form}
 use Rattle.design_problem.specs.Basis.{IsFormOf, entry, member_form}
-use Rattle.fraction_rows.specs.TableRows.{AreTableNumbers, nothing}
+use Rattle.fraction_rows.specs.TableLines.{AreTableNumbers, nothing}
 use Rattle.fraction_table.specs.Tableaus.{moved_member}
 use Rattle.fraction_table.specs.ValidTables.{Stand, number_of_form, numbers_of_form}
 use Rattle.fraction_table.specs.Moves.{fallen, raised_line}

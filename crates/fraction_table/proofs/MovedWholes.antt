@@ -15,9 +15,9 @@ use Rattle.design_problem.specs.declared.tree.Member.{Member}
 use Rattle.design_problem.specs.declared.tree.Member.TheVariants.{Low, High, Row}
 use Rattle.design_problem.specs.Forms.{no_form}
 use Rattle.design_problem.specs.Basis.{IsFormOf, forms_of, low_member, member_form}
-use Rattle.fraction_rows.specs.TableRows.{nothing}
+use Rattle.fraction_rows.specs.TableLines.{nothing}
 use Rattle.fraction_table.specs.Tableaus.{moved_basis, moved_member}
-use Rattle.fraction_rows.specs.Turns.{AreTableRows}
+use Rattle.fraction_rows.specs.Turns.{AreTableLines}
 use Rattle.fraction_table.specs.ValidTables.{AllLong, AreMixtures, IsTableLine, IsUnboxed, Stand, high_member, low_forms, members_of_box, number_of_form, numbers_of_form}
 use Rattle.fraction_table.specs.Moves.{IsColumnOf, fallen, put_at, raised_line, shifted_lines}
 use Rattle.fraction_table.proofs.Bases.{members_begin}
@@ -213,7 +213,7 @@ pub record IsMoveOf (top : ℕ) (costs next : CostBox) (rows : List Form) (basis
   pub numbers : AreMoved u.common costs.low next.low u.lows news (forms_of costs rows basis) column fall
   pub own_in : own < length (members_of_box costs (length rows))
   pub own_is : slice_index_or (members_of_box costs (length rows)) own (Low 0 0) ≡ before
-  pub rows_are : AreTableRows top (suc (length costs.low)) (shifted_lines column own (whole fall) table)
+  pub rows_are : AreTableLines top (suc (length costs.low)) (shifted_lines column own (whole fall) table)
 
 -- the numbers of the form of a column
 pub column_own : (top : ℕ) (costs : CostBox) (rows : List Form) (basis : List Member) (table : List (List Fraction))

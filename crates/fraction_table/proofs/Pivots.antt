@@ -16,9 +16,9 @@ use Rattle.design_problem.specs.Basis.{IsFormOf, entry, low_member, member_form}
 use Rattle.design_problem.specs.Steps.{IsPivot, IsTableStep, IsStepTooWide}
 use Rattle.fraction_table.specs.declared.table.Table.{Table}
 use Rattle.fraction_rows.specs.Entries.{IsPassing}
-use Rattle.fraction_rows.specs.TableRows.{IsWideStep, divided_without}
+use Rattle.fraction_rows.specs.TableLines.{IsWideStep, divided_without}
 use Rattle.fraction_table.specs.Tableaus.{wide_at}
-use Rattle.fraction_rows.specs.Turns.{AreTableRows, IsQuotientStepOf, IsTurnStep, TurnsWide, turned_by}
+use Rattle.fraction_rows.specs.Turns.{AreTableLines, IsQuotientStepOf, IsTurnStep, TurnsWide, turned_by}
 use Rattle.fraction_table.specs.ValidTables.{IsTableLine, IsTableauOf, IsTableau, high_member, members_of_box, numbers_of_form}
 use Rattle.fraction_table.specs.Pivots.{IsLeastIn, line_at, numbers_of_line, member_at}
 use Rattle.fraction_table.proofs.theory.Resolved.{stand_length}
@@ -62,12 +62,12 @@ pub line_read : (t : Table) (line : ℕ) (row : List Fraction) → row ≡ slice
 line_read t line row is line_in = is ∙ get_or_default t.lines.items line row [] line_in
 
 -- all lines are of the table's width and numbers
-pub whole_rows : (t : Table) (w : IsTableau t) → AreTableRows t.top (suc (length t.costs.low)) t.lines.items
+pub whole_rows : (t : Table) (w : IsTableau t) → AreTableLines t.top (suc (length t.costs.low)) t.lines.items
 whole_rows t w = fit (members_of_box t.costs (length t.rows.items)) t.lines.items w.unboxed.lines
   where
     fit : (members : List Member) (lines : List (List Fraction)) →
         AllZip (IsTableLine t.top w.unboxed.common t.costs t.rows.items w.unboxed.lows) members lines →
-        AreTableRows t.top (suc (length t.costs.low)) lines
+        AreTableLines t.top (suc (length t.costs.low)) lines
     fit [] [] all = tt
     fit [] (line ∷ lines) all = absurd all
     fit (member ∷ members) [] all = absurd all
@@ -206,7 +206,7 @@ pivot_of t w line column a line_in pivot least at_column positive =
 pub pivot_whole : (t : Table) (w : IsTableau t) (line column : ℕ) (news : List (List Fraction)) →
     line < length t.lines.items → IsPivot t.basis.items (line_at t line) (suc column) → IsLeastIn t line column →
     news ≡ map (turned_line (line_at t line) (suc column)) t.lines.items →
-    AreTableRows t.top (suc (length t.costs.low)) news →
+    AreTableLines t.top (suc (length t.costs.low)) news →
     IsTableauOf t.top t.costs t.rows.items (slice_set t.basis.items column (member_at t line)) news
 pivot_whole t w line column news line_in pivot least news_are numbers =
     let n = length t.costs.low in
@@ -215,7 +215,7 @@ pivot_whole t w line column news line_in pivot least news_are numbers =
     let p = pivot_of t w line column positive.0 line_in pivot least positive.1 positive.2 in
     subst (λ (lines : List (List Fraction)). IsTableauOf t.top t.costs t.rows.items (slice_set t.basis.items column (member_at t line)) lines) (sym news_are)
     (whole_turned t.top t.costs t.rows.items t.basis.items t.lines.items (member_at t line) es column positive.0 w p
-    (subst (AreTableRows t.top (suc n)) news_are numbers))
+    (subst (AreTableLines t.top (suc n)) news_are numbers))
 
 -- the inverse of a positive entry isn't 0
 inverted_not_zero : (z : ℤ) (d : ℕ) → 0 < d → pos 0 <ℤ z → (inverted z d).numerator ≢ pos 0

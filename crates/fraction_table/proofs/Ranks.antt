@@ -14,8 +14,8 @@ use Rattle.design_problem.specs.Earnest.{LexLess}
 use Rattle.design_problem.specs.Steps.{IsPivot}
 use Rattle.fraction_table.specs.declared.table.Table.{Table}
 use Rattle.design_problem.specs.declared.form.CostBox.{CostBox}
-use Rattle.fraction_rows.specs.TableRows.{IsTableNumber}
-use Rattle.fraction_rows.specs.Turns.{AreTableRows}
+use Rattle.fraction_rows.specs.TableLines.{IsTableNumber}
+use Rattle.fraction_rows.specs.Turns.{AreTableLines}
 use Rattle.fraction_table.specs.ValidTables.{AllLong, IsTableau}
 use Rattle.fraction_table.specs.Pivots.{IsLeastIn, KeepsBoxAndRows, line_at, numbers_of_line, member_at, numbers_in_column, turned_column}
 use Rattle.fraction_table.specs.Ranks.{digits_number, heights, past_heights, raised_height, rank}
@@ -194,7 +194,7 @@ first_number lows place v v_in = get_or-map (λ ts. number_at ts place) lows v [
 -- Before and after a pivot the constants of x - low are fractions of numbers in the first column.
 constants_there : (t : Table) (w : IsTableau t) (line column a : ℕ) (line_in : line < length t.lines.items) →
     (p : IsPivotOf t.top t.costs t.rows.items w.unboxed.common w.unboxed.lows (member_at t line) (line_at t line) column
-    a) → (rows : AreTableRows t.top (suc (length t.costs.low))
+    a) → (rows : AreTableLines t.top (suc (length t.costs.low))
     (map (turned_line (line_at t line) (suc column)) t.lines.items)) → (v : ℕ) → v < length t.costs.low →
     IsConstant t.top w.unboxed.common a (entry (slice_index_or t.lines.items v []) 0)
     (entry (slice_index_or (map (turned_line (line_at t line) (suc column)) t.lines.items) v []) 0)
@@ -227,7 +227,7 @@ constants_there t w line column a line_in p rows v v_in =
 pub rank_rises : (t : Table) (w : IsTableau t) (line column : ℕ) (news : List (List Fraction)) →
     line < length t.lines.items → IsPivot t.basis.items (line_at t line) (suc column) → IsLeastIn t line column →
     news ≡ map (turned_line (line_at t line) (suc column)) t.lines.items →
-    AreTableRows t.top (suc (length t.costs.low)) news →
+    AreTableLines t.top (suc (length t.costs.low)) news →
     rank t < digits_number (past_heights t.top) (heights t.top (length t.costs.low) news)
 unfolding whole_turned
 rank_rises t w line column news line_in pivot least news_are rows =
@@ -238,7 +238,7 @@ rank_rises t w line column news line_in pivot least news_are rows =
     let positive = entry_number t w line column line_in pivot in
     let a = positive.0 in
     let p = pivot_of t w line column a line_in pivot least positive.1 positive.2 in
-    let turned_rows_are : AreTableRows t.top (suc n) turned = subst (AreTableRows t.top (suc n)) news_are rows in
+    let turned_rows_are : AreTableLines t.top (suc n) turned = subst (AreTableLines t.top (suc n)) news_are rows in
     let many = lines_many t w in
     let as_many : length turned ≡ length t.lines.items = length-map t.lines.items (turned_line es (suc column)) in
     let counted = lows_counted t.top t.costs t.rows.items t.basis.items t.lines.items w in

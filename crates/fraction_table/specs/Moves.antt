@@ -10,8 +10,8 @@ use Rattle.design_problem.specs.declared.tree.Member.{Member}
 use Rattle.design_problem.specs.declared.tree.Member.TheVariants.{Low, High}
 use Rattle.design_problem.specs.Basis.{entry}
 use Rattle.fraction_table.specs.declared.table.Table.{Table}
-use Rattle.fraction_rows.specs.TableRows.{IsWideStep, nothing}
-use Rattle.fraction_rows.specs.Turns.{AreTableRows}
+use Rattle.fraction_rows.specs.TableLines.{IsWideStep, nothing}
+use Rattle.fraction_rows.specs.Turns.{AreTableLines}
 use Rattle.fraction_table.specs.Tableaus.{IsShiftStep, Shift, moved_basis}
 use Rattle.fraction_table.specs.ValidTables.{HasRoom, members_of_box}
 
@@ -80,12 +80,12 @@ pub record IsShiftedWide (old : Table) (own : ℕ) (before : Member) (fall : ℤ
 pub record HasShape (t : Table) : Type 0 where
   pub high : length t.costs.high ≡ length t.costs.low
   pub basis : length t.basis.items ≡ length t.costs.low
-  pub lines : AreTableRows t.top (suc (length t.costs.low)) t.lines.items
+  pub lines : AreTableLines t.top (suc (length t.costs.low)) t.lines.items
   pub many : length t.lines.items ≡ length (members_of_box t.costs (length t.rows.items))
   pub room : HasRoom t
 
 -- the two tables have one top, the same rows, and as many variables
-pub record KeepsTableRows (old new : Table) : Type 0 where
+pub record KeepsTableLines (old new : Table) : Type 0 where
   pub top : new.top ≡ old.top
   pub rows : new.rows.items ≡ old.rows.items
   pub width : length new.costs.low ≡ length old.costs.low

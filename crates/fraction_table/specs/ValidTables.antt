@@ -11,8 +11,8 @@ use Rattle.design_problem.specs.declared.tree.Member.TheVariants.{Low, High, Row
 use Rattle.design_problem.specs.Forms.{no_form, value_for_costs}
 use Rattle.design_problem.specs.Boxes.{IsBox}
 use Rattle.design_problem.specs.Basis.{IsBasis, IsFormOf, IsMixture, LeadsPositive, entry, forms_of, low_member, member_form}
-use Rattle.design_problem.specs.Steps.{IsStuck}
-use Rattle.fraction_rows.specs.TableRows.{AreTableNumbers}
+use Rattle.design_problem.specs.Steps.{IsRefutingForm}
+use Rattle.fraction_rows.specs.TableLines.{AreTableNumbers}
 use Rattle.fraction_table.specs.declared.table.Table.{Table}
 use Rattle.fraction_table.specs.declared.stage.Stage.{Stage}
 use Rattle.fraction_table.specs.declared.stage.Stage.TheVariants.{Open, Ended, Stopped}
@@ -102,7 +102,7 @@ starting_line costs rows member =
 abbrev pub IsShown : List Member → List (List Fraction) → Stage → Type 0
 IsShown basis table Open = Unit {0}
 IsShown basis table (Ended Feasible) = All (λ line. pos 0 ≤ℤ (entry line 0).numerator) table
-IsShown basis table (Ended (Refuted form)) = (form < length table) × IsStuck basis (slice_index_or table form [])
+IsShown basis table (Ended (Refuted form)) = (form < length table) × IsRefutingForm basis (slice_index_or table form [])
 IsShown basis table (Stopped wide) = Unit {0}
 
 -- the lines of a struct are the table of its box and its rows at its basis
@@ -122,7 +122,7 @@ pub record HasRoom (t : Table) : Type 0 where
 -- Until a step stops it, a tableau's lines are the table of its box and rows at its basis; they show what it found. At
 -- all times its basis is one of the box and the rows, and its two work rows are as wide as the lines.
 pub record IsSound (t : Table) (stage : Stage) : Type 0 where
-  pub whole : IsGoing stage → IsTableau t
+  pub tableau : IsGoing stage → IsTableau t
   pub shown : IsShown t.basis.items t.lines.items stage
   pub basis : IsBasis t.costs t.rows.items t.basis.items
   pub room : HasRoom t

@@ -12,7 +12,7 @@ use Rattle.whole_numbers.specs.Fractions.{exact_quotient, gcd, lcm}
 use Rattle.whole_numbers.proofs.Divisors.{gcd-one, gcd-swap, gcd-zero, gcd_is, quotient_positive}
 use Rattle.whole_numbers.proofs.Ring.{var, num, ◌⊖◌, ◌⊗◌, ring_by, using, nothing}
 use Rattle.whole_numbers.proofs.Sizes.{positive_is, size_positive}
-use Rattle.integer_pivots.specs.declared.turn.Turn.{Turn}
+use Rattle.integer_pivots.specs.declared.turned_line.Turn.{Turn}
 use Rattle.integer_pivots.specs.Numbers.{AllWithin, greatest_of}
 use Rattle.integer_pivots.specs.Turns.{turn_by, turned_number}
 use Rattle.integer_pivots.proofs.Quotients.{common_positive, quotient_one, quotient_size, quotient_times}

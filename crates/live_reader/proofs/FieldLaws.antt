@@ -10,6 +10,7 @@ use Rattle.json.specs.Tree.{json_tokens, members_tokens}
 use Rattle.live_reader.specs.Places.{Stands, Member, members_at, object_members, last_where, member_named}
 use Rattle.live_reader.specs.Fields.{hex_digit, hex_behind}
 use Rattle.std.specs.List.{list_all}
+use Rattle.std.proofs.lemmas.Option.{same_Some}
 use Rattle.live_reader.specs.Walks.{StandsIf}
 use Rattle.live_reader.specs.JsonLsas.{inner, is_quad, names_area, area_member}
 use Rattle.live_reader.proofs.WalkLaws.{member_value, member_rest, object_inside}
@@ -70,13 +71,6 @@ pub read_named : {X : Type 0} → (all : List Token) (name : List ℕ) (place at
 read_named all name place at j result read stands e says =
     pick all at result read (option_and_then (member_named name) (object_members place j)) (named_stands all _ place j stands) e says
     ∙ over (member_named name) (λ m. read m.place m.value) (object_members place j)
-
-some_is : {X : Type 0} (a b : X) → Some a ≡ Some b → a ≡ b
-some_is {X} a b e = ap (or_else a) e
-  where
-    or_else : X → Option X → X
-    or_else d None = d
-    or_else d (Some x) = x
 
 -- ---- objects inside
 
@@ -170,10 +164,10 @@ area_there all area place found ms None stands is e = absurd (subst IsThere e tt
 area_there all area place found ms (Some m) stands is e =
     let inside = object_inside all place ms stands in
     let last : last_where (names_area area) (members_at (place + 1) ms) ≡ m = the_same (list_all is_quad (members_at (place + 1) ms)) is in
-    (m, by_member m (subst (IfThere all) last (last_stands all (names_area area) (place + 1) ms inside.0 inside.1)) (some_is found (option_map (λ (m : Member). m.place) m) e), is)
+    (m, by_member m (subst (IfThere all) last (last_stands all (names_area area) (place + 1) ms inside.0 inside.1)) (same_Some found (option_map (λ (m : Member). m.place) m) e), is)
   where
     the_same : (b : Bool) → cond b (Some (last_where (names_area area) (members_at (place + 1) ms))) None ≡ Some m → last_where (names_area area) (members_at (place + 1) ms) ≡ m
-    the_same true f = some_is _ _ f
+    the_same true f = same_Some _ _ f
     the_same false f = absurd (subst IsThere (sym f) tt)
 
     by_member : (o : Option Member) → IfThere all o → found ≡ option_map (λ (m : Member). m.place) o → StandsIf all found o

@@ -2,13 +2,14 @@
 use Rattle.std.proofs.Common.{◌≡◌, ℕ, ◌+◌, ◌-◌, ◌<◌, ◌≤◌, List, [], ◌∷◌, ◌++◌, Bool, true, false, cond, length, drop, get_or, Option, Some, None, refl, sym, ap, ◌∙◌, subst, arith, ◌||◌, ◌&&◌}
 use Rattle.std.specs.Prelude.{reverse, is_some}
 use Rattle.std.specs.List.{list_any, list_all}
-use Rattle.std.proofs.lemmas.List.{drop_more, reverse-append, drop_all}
+use Rattle.std.proofs.lemmas.List.{reverse-append, drop_all}
 use Rattle.cost_base.specs.Lists.{same_bytes}
 use Rattle.cost_base.proofs.ByteLemmas.{same_bytes-true}
 use Rattle.text_lines.specs.Numbers.{quad}
 use Rattle.json.specs.Token.{Token}
 use Rattle.json.specs.Json.{Json, Members, no_members, member}
 use Rattle.json.specs.Tree.{json_tokens, members_tokens}
+use Rattle.cost_base.proofs.ListLemmas.{drop_read}
 use Rattle.live_reader.specs.declared.tree.Step.{Step}
 use Rattle.live_reader.specs.Places.{Stands, Placed, Member, members_at, last_where, those_last, member_values}
 use Rattle.live_reader.specs.Walks.{IsStep, HaveSeen, StepOver, StandAt, last_places}
@@ -83,16 +84,13 @@ any_more p (y ∷ xs) x = ap (λ b. p y || b) (any_more p xs x) ∙ swapped (p y
     swapped false true c = refl
     swapped false false c = refl
 
-at_left : (steps : List Step) (left : ℕ) (step : Step) → left < length steps → step ≡ get_or steps left step → drop left steps ≡ step ∷ drop (left + 1) steps
-at_left steps left step within is = drop_more steps left step within ∙ ap (λ (s : Step). s ∷ drop (left + 1) steps) (sym is)
-
 -- a step whose name comes later is left out
 pub left_out : (steps : List Step) (left : ℕ) (step : Step) (names : List (List ℕ)) (places : List ℕ) → 0 < left → AreGathered steps left names places →
     step ≡ get_or steps (left - 1) step → list_any (same_bytes step.name.now) names ≡ true → AreGathered steps (left - 1) names places
 left_out steps left step names places some are is there =
     let behind : left - 1 + 1 ≡ left = omega arith in
     let front : drop (left - 1) steps ≡ step ∷ drop left steps =
-    at_left steps (left - 1) step (omega (arith, are.within)) is ∙ ap (λ n. step ∷ drop n steps) behind in
+    drop_read steps (left - 1) step (omega (arith, are.within)) is ∙ ap (λ n. step ∷ drop n steps) behind in
     let here : list_any (λ (later : Step). same_bytes step.name.now later.name.now) (drop left steps) ≡ true = sym (are.names_are step.name.now) ∙ there in
     record {
       within = omega (arith, are.within);
@@ -118,7 +116,7 @@ pub kept : (steps : List Step) (left : ℕ) (step : Step) (names more : List (Li
 kept steps left step names more places some are is new added =
     let behind : left - 1 + 1 ≡ left = omega arith in
     let front : drop (left - 1) steps ≡ step ∷ drop left steps =
-    at_left steps (left - 1) step (omega (arith, are.within)) is ∙ ap (λ n. step ∷ drop n steps) behind in
+    drop_read steps (left - 1) step (omega (arith, are.within)) is ∙ ap (λ n. step ∷ drop n steps) behind in
     let here : list_any (λ (later : Step). same_bytes step.name.now later.name.now) (drop left steps) ≡ false = sym (are.names_are step.name.now) ∙ new in
     record {
       within = omega (arith, are.within);

@@ -1,5 +1,5 @@
 -- The LSAs of a text are few: each of them and of their links has a token of its own.
-use Rattle.std.proofs.Common.{◌≡◌, ℕ, suc, ◌+◌, ◌<◌, ◌≤◌, List, [], ◌∷◌, ◌++◌, Bool, true, false, ◌&&◌, cond, length, Option, Some, None, refl, sym, ap, ◌∙◌, subst, arith, length-append}
+use Rattle.std.proofs.Common.{◌≡◌, ℕ, suc, ◌+◌, ◌<◌, ◌≤◌, List, [], ◌∷◌, ◌++◌, Bool, true, false, cond, length, Option, Some, None, refl, sym, ap, ◌∙◌, subst, arith, length-append}
 use Rattle.std.specs.Prelude.{codes, sum_by, option_map, option_to_list, ok_or, Result, Ok, Err, All}
 use Rattle.std.specs.List.{list_all, list_any, AllByRecursion}
 use Rattle.std.specs.Option.{option_or, option_and_then}
@@ -9,6 +9,8 @@ use Rattle.cost_base.proofs.ListLemmas.{all_from_each}
 use Rattle.cost_base.specs.Lists.{same_bytes}
 use Rattle.json.specs.Json.{Json, null, boolean, number, string, array, object, Items, no_items, item, Members, no_members, member}
 use Rattle.json.specs.Tree.{json_tokens, items_tokens, members_tokens}
+use Rattle.std.proofs.lemmas.Bool.{and_from}
+use Rattle.std.proofs.lemmas.Option.{same_Some}
 use Rattle.lsa_bytes.specs.declared.Lsa.{Lsa}
 use Rattle.lsa_bytes.specs.declared.LsaLink.{LsaLink}
 use Rattle.lsa_bytes.specs.declared.instances.Instance.{Instance}
@@ -40,13 +42,6 @@ abbrev IsThere : {X : Type 0} → Option X → Type 0
 IsThere None = ⊥
 IsThere (Some x) = Unit {0}
 
-abbrev else : {X : Type 0} → X → Option X → X
-else d None = d
-else d (Some x) = x
-
-there : {X : Type 0} (a b : X) → Some a ≡ Some b → a ≡ b
-there a b is = ap (else a) is
-
 -- ---- links
 
 -- the links of so many values: they are no more, and of types 1 and 2
@@ -55,7 +50,7 @@ pub record AreFewLinks (n : ℕ) (links : List LsaLink) : Type 0 where
   pub types : list_all (λ link. is_link_type link.kind) links ≡ true
 
 made_kind : (kind : ℕ) (a b c : Option ℕ) (link : LsaLink) → option_map Some (link_made kind a b c) ≡ Some (Some link) → link.kind ≡ kind
-made_kind kind (Some a) (Some b) (Some c) link is = sym (ap (λ (l : LsaLink). l.kind) (there _ _ (there _ _ is)))
+made_kind kind (Some a) (Some b) (Some c) link is = sym (ap (λ (l : LsaLink). l.kind) (same_Some _ _ (same_Some _ _ is)))
 made_kind kind None b c link is = absurd (subst IsThere (sym is) tt)
 made_kind kind (Some a) None c link is = absurd (subst IsThere (sym is) tt)
 made_kind kind (Some a) (Some b) None link is = absurd (subst IsThere (sym is) tt)
@@ -63,7 +58,7 @@ made_kind kind (Some a) (Some b) None link is = absurd (subst IsThere (sym is) t
 of_kind : (b c : Bool) (members : List Member) (link : LsaLink) → link_of_kind (cond b 1 (cond c 2 0)) members ≡ Some (Some link) → is_link_type link.kind ≡ true
 of_kind true c members link is = ap is_link_type (made_kind 1 _ _ _ link is)
 of_kind false true members link is = ap is_link_type (made_kind 2 _ _ _ link is)
-of_kind false false members link is = absurd (subst IsThere (sym (there {X = Option LsaLink} _ _ is)) tt)
+of_kind false false members link is = absurd (subst IsThere (sym (same_Some {A = Option LsaLink} _ _ is)) tt)
 
 of_text : (o : Option (List ℕ)) (members : List Member) (link : LsaLink) → option_and_then (λ text. link_of_kind (link_kind_of text) members) o ≡ Some (Some link) → is_link_type link.kind ≡ true
 of_text None members link is = absurd (subst IsThere (sym is) tt)
@@ -78,11 +73,6 @@ link_kind : (around place : ℕ) (o : Option (List Member)) (link : LsaLink) →
 link_kind around place None link is = never around (Some link) is
 link_kind around place (Some members) link is = of_text (text_of_name (codes "linkType") members) members link (read_kind (link_said members) place (Some link) is)
 
-and_true : (b c : Bool) → b ≡ true → c ≡ true → (b && c) ≡ true
-and_true true true e f = refl
-and_true true false e f = f
-and_true false c e f = e
-
 link_more : (n : ℕ) (link : Option LsaLink) (links all : List LsaLink) → ((l : LsaLink) → link ≡ Some l → is_link_type l.kind ≡ true) → AreFewLinks n links →
     option_to_list link ++ links ≡ all → AreFewLinks (suc n) all
 link_more n None links all kind few is = record {
@@ -91,7 +81,7 @@ link_more n None links all kind few is = record {
 }
 link_more n (Some l) links all kind few is = record {
   few = omega (arith, few.few, ap length is);
-  types = ap (list_all (λ (l : LsaLink). is_link_type l.kind)) (sym is) ∙ and_true (is_link_type l.kind) (list_all (λ (l : LsaLink). is_link_type l.kind) links) (kind l refl) few.types;
+  types = ap (list_all (λ (l : LsaLink). is_link_type l.kind)) (sym is) ∙ and_from (is_link_type l.kind) (list_all (λ (l : LsaLink). is_link_type l.kind) links) (kind l refl) few.types;
 }
 
 behind_few : (n : ℕ) (r : Result (Option LsaLink) ℕ) (m : Result (List LsaLink) ℕ) (links : List LsaLink) →
@@ -155,7 +145,7 @@ small_value n place (number s) found less is = absurd (subst IsThere (sym is) tt
 small_value n place (string s) found less is = absurd (subst IsThere (sym is) tt)
 small_value n place (array js) found less is = absurd (subst IsThere (sym is) tt)
 small_value n place (object ms) found less is =
-    subst (IsSmallInside n) (there _ found is) (record { inside = ms; is = refl; smaller = omega (arith, less) })
+    subst (IsSmallInside n) (same_Some _ found is) (record { inside = ms; is = refl; smaller = omega (arith, less) })
 
 small_member : (n : ℕ) (o : Option Member) (found : ℕ × List Member) → IsSmaller n o → option_and_then (λ m. option_map (λ inside. (m.place, inside)) (object_members m.place m.value)) o ≡ Some found → IsSmallInside n found
 small_member n None found less is = absurd (subst IsThere (sym is) tt)

@@ -8,13 +8,13 @@ use Rattle.std.proofs.lemmas.Simd.{map-map}
 use Rattle.std.proofs.lemmas.List.Elements.{All-nil, All-cons, filter-append}
 use Rattle.std.proofs.lemmas.List.Kept.{AllPairs-cons}
 use Rattle.cost_base.specs.Lists.{numbers_from}
-use Rattle.cost_base.proofs.ListLemmas.{length-numbers_from, list_any-map}
+use Rattle.cost_base.proofs.ListLemmas.{length-numbers_from, list_any-map, pairs_nil, pairs_head, pairs_tail}
 use Rattle.interface_model.specs.Records.{Router as Config}
 use Rattle.lsdb_build.specs.declared.Far.{Far}
 use Rattle.lsdb_build.specs.declared.Far.TheVariants.{Router, Subnet}
 use Rattle.lsdb_build.specs.declared.Linked.{Linked}
 use Rattle.lsdb_build.specs.Graphs.{Database, IsAreaDatabase, IsDatabaseLink, link_leads_to, leads_to, links_into_subnet}
-use Rattle.lsdb_build.proofs.Pairs.{all_at, map_at, at_map, pairs_nil, pairs_head, pairs_tail}
+use Rattle.lsdb_build.proofs.Pairs.{all_at, map_at, at_map}
 use Rattle.lsa_bytes.specs.declared.LsaLink.{LsaLink}
 use Rattle.lsa_bytes.specs.declared.Body.{Body}
 use Rattle.lsa_bytes.specs.declared.Lsa.{Lsa}

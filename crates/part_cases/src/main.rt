@@ -16,14 +16,11 @@ mod shelves;
 mod sinks;
 mod texts;
 
+use crate::answer::Desk;
+use case_scripts::play_all;
 use std::io;
 
 fn main(rt: HostRuntime) -> io::Result<()> {
-    let alloc = rt.alloc();
-    for line in rt.lines(alloc) {
-        let line = line?;
-        let text = answer::answer(&rt, line.as_str())?;
-        println!(rt; "{line}{text}")?;
-    }
-    Ok(())
+    let mut desk = Desk::new(rt);
+    play_all(&rt, &mut desk)
 }

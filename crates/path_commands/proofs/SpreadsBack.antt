@@ -14,7 +14,7 @@ use Rattle.design_problem.specs.Problems.{DesignProblem}
 use Rattle.design_problem.specs.Rows.{box_of, greatest_cost}
 use Rattle.design_problem.specs.Text.{cost_lines, spaced, tree_lines}
 use Rattle.text_lines.specs.Lines.{with_ends}
-use Rattle.command_words.specs.Jobs.{SearchLimits}
+use Rattle.wide_fraction.specs.SearchLimits.{SearchLimits}
 use Rattle.input_files.specs.Outcomes.{Input}
 use Rattle.input_files.proofs.ReadyInputs.{IsReadyInput}
 use Rattle.present_costs.specs.AtCosts.{graph_with}

@@ -14,7 +14,7 @@ use Rattle.lsdb_build.specs.declared.Linked.{Linked}
 use Rattle.lsdb_build.specs.Graphs.{Database, IsAreaDatabase}
 use Rattle.request_reader.specs.declared.Directive.{Directive}
 use Rattle.request_reader.specs.declared.Directive.TheVariants.{FreeAll, Free, Fix, Path, SymmetricAll, Symmetric}
-use Rattle.request_reader.specs.declared.Item.{Item}
+use Rattle.request_reader.specs.declared.DirectiveLine.{DirectiveLine}
 use Rattle.wanted_paths.specs.Paths.{is_link_named, link_number}
 use Rattle.path_requests.specs.Meaning.{says_symmetric}
 use Rattle.wanted_paths.specs.Resolution.{knows_link}
@@ -141,7 +141,7 @@ regroup false true false x y = refl
 regroup false false false x y = refl
 
 -- all lines that make all links symmetric, and then those that name one
-pub any_apart : (d : Database) (link : Linked) (items : List Item) →
+pub any_apart : (d : Database) (link : Linked) (items : List DirectiveLine) →
     list_any (λ item. says_symmetric d link item.what) items
     ≡ ((list_any (λ item. ties_all item.what) items && is_some link.link_back)
     || list_any (λ item. ties_one d link item.what) items)
@@ -152,7 +152,7 @@ any_apart d link (item ∷ items) =
     ∙ regroup (ties_all item.what) (list_any (λ item. ties_all item.what) items) (is_some link.link_back)
     (ties_one d link item.what) (list_any (λ item. ties_one d link item.what) items)
 
-pub all_apart : (d : Database) (items : List Item) →
+pub all_apart : (d : Database) (items : List DirectiveLine) →
     map (λ link. (list_any (λ item. ties_all item.what) items && is_some link.link_back)
     || list_any (λ item. ties_one d link item.what) items) d.links
     ≡ map (λ link. list_any (λ item. says_symmetric d link item.what) items) d.links
@@ -162,7 +162,7 @@ all_apart d items = ap (λ (f : Linked → Bool). map f d.links) (λ t link. sym
 pub tied_none : (d : Database) (f : Linked → Bool) → map f d.links ≡ map (λ link. f link || false) d.links
 tied_none d f = ap (λ (g : Linked → Bool). map g d.links) (λ t link. sym (or-false (f link)) t)
 
-pub tied_more : (d : Database) (items : List Item) (i : ℕ) (item : Item) (f : Linked → Bool) → i < length items →
+pub tied_more : (d : Database) (items : List DirectiveLine) (i : ℕ) (item : DirectiveLine) (f : Linked → Bool) → i < length items →
     item ≡ get_or items i item →
     map (λ link. (f link || list_any (λ other. ties_one d link other.what) (take i items)) || ties_one d link item.what)
     d.links ≡ map (λ link. f link || list_any (λ other. ties_one d link other.what) (take (i + 1) items)) d.links
@@ -174,5 +174,5 @@ tied_more d items i item f within is = ap (λ (g : Linked → Bool). map g d.lin
     each link =
         or_assoc (f link) (list_any (λ other. ties_one d link other.what) (take i items)) (ties_one d link item.what)
         ∙ ap (λ b. f link || b)
-        (ap (λ (x : Item). list_any (λ other. ties_one d link other.what) (take i items) || ties_one d link x.what) is
+        (ap (λ (x : DirectiveLine). list_any (λ other. ties_one d link other.what) (take i items) || ties_one d link x.what) is
         ∙ sym (list_any_more (λ other. ties_one d link other.what) items i item within))

@@ -9,7 +9,7 @@ ghost use Rattle.path_requests.specs.Resolving.{same_range};
 
 use cost_base::OutOfMemory;
 use lsdb_build::Linked;
-use request_reader::{Directive, Item};
+use request_reader::{Directive, DirectiveLine};
 use std::alloc::Global;
 use wanted_paths::Names;
 
@@ -100,7 +100,7 @@ fn decide_named(names: &Names, directive: &Directive, decided: &mut Vec<Option<R
 }
 
 /// Decides ranges from the last line back to one that frees all links; the range of those that stay undecided.
-fn decide_lines(names: &Names, items: &[Item], decided: &mut Vec<Option<Range>>) -> Range
+fn decide_lines(names: &Names, items: &[DirectiveLine], decided: &mut Vec<Option<Range>>) -> Range
     requires { decided.old.items ≡ map (λ link. None) names.now.links }
     ensures { map (λ said. unwrap_or said result) decided.new.items ≡
         map (λ link. range_by names.now link items.now) names.now.links }
@@ -119,11 +119,7 @@ fn decide_lines(names: &Names, items: &[Item], decided: &mut Vec<Option<Range>>)
 fn undecided(alloc: Global, names: &Names) -> Result<Vec<Option<Range>>, OutOfMemory>
     ensures { IfOk result (λ made. made.items ≡ map (λ link. None) names.now.links) }
 {
-    let mut made = Vec::new(alloc);
-    for _link in names.links() {
-        made.push(None)?;
-    }
-    Ok(made)
+    Ok(vec![in alloc; None; names.links().len()]?)
 }
 
 /// The ranges, of which those that are undecided are one.
@@ -144,7 +140,11 @@ fn ranges_or(
 
 /// The range of each link: the last line that says it counts. One pass over the lines, whose links are looked up by
 /// their names.
-pub fn ranges_by(alloc: Global, names: &Names, items: &[Item]) -> Result<Vec<Range>, OutOfMemory>
+pub fn ranges_by(
+    alloc: Global,
+    names: &Names,
+    items: &[DirectiveLine],
+) -> Result<Vec<Range>, OutOfMemory>
     ensures { IfOk result (λ ranges. ranges.items ≡ map (λ link. range_by names.now link items.now)
         names.now.links) }
 {

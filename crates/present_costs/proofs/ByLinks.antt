@@ -122,10 +122,10 @@ present_graph a d =
 
 -- its wanted paths are paths of their requests in the graph by links
 pub present_paths_by_links : (a : Asked) (d : Database) → IsProblem (present_problem_of a d) →
-    All (λ r. IsPathOf (graph_by_links d) (request_ends r) r.path.edges) (present_problem_of a d).paths
+    All (λ r. IsPathOf (graph_by_links d) (request_ends r) r.path.edges) (present_problem_of a d).requests
 present_paths_by_links a d kept =
     All-weaker (λ r. IsPathOf (present_problem_of a d).graph (request_ends r) r.path.edges)
     (λ r. IsPathOf (graph_by_links d) (request_ends r) r.path.edges)
     (λ r path. (path_by_links d (map (present_cost a) d.links) (request_ends r) r.path.edges (length-map d.links (present_cost a))).1
     (subst (λ (g : Area). IsPathOf g (request_ends r) r.path.edges) (present_graph a d) path))
-    (present_problem_of a d).paths kept.paths
+    (present_problem_of a d).requests kept.requests

@@ -1,4 +1,5 @@
--- The costs of an answer's lines, set in a database: each free link then has the cost of its variable, each fixed link its own.
+-- The costs of an answer's lines, set in a database: each free link then has the cost of its variable, each fixed link
+-- its own.
 use Rattle.std.proofs.Common.{inl, inr, ◌≡◌, ◌≢◌, ℕ, zero, suc, ◌+◌, ◌<◌, refl, sym, ◌∙◌, ap, subst, List, [], ◌∷◌, ◌++◌, length, map, get_or, arith, Bool, true, false, cond, Option, Some}
 use Rattle.std.specs.Prelude.{slice_get, slice_index, slice_index_or, unwrap_or, ◌&&◌, if◌then◌else◌}
 use Rattle.std.specs.List.{AllZip}
@@ -221,8 +222,8 @@ prices_back a d w c l (link ∷ links) each =
     ∙ ap (λ (n : ℕ). fixed_at w (price_of a d n other (range_of a d other))) next) in
     cc
 
--- The graph of a database with the costs of the chosen lines is the problem's graph at the costs, where the other links stand
--- at them: free links have the values of their variables, fixed links the cost that they have, or the default.
+-- The graph of a database with the costs of the chosen lines is the problem's graph at the costs, where the other links
+-- stand at them: free links have the values of their variables, fixed links the cost that they have, or the default.
 pub recosted_graph_is : (chosen : ℕ → Linked → Bool) (a : Asked) (d : Database) (w : List ℕ) (lines : List CostLine) → IsAreaDatabase d →
     StandElse chosen a d w → lines ≡ map (named_cost w) (names_where chosen a d 0 d.links) →
     graph_at (recosted (costs_by_lines lines d.routers) d)

@@ -25,7 +25,7 @@ use Rattle.lsdb_build.proofs.LinkOwners.{interface_names, IsLinkOf, links_of_rou
 use Rattle.design_problem.specs.declared.problem.VarName.{VarName}
 use Rattle.design_problem.specs.declared.answer.CostLine.{CostLine}
 use Rattle.design_problem.specs.Problems.{DesignProblem}
-use Rattle.design_problem.specs.Answers.{Names}
+use Rattle.design_problem.specs.Answers.{CostLinesOf}
 use Rattle.request_reader.specs.Asked.{Asked}
 use Rattle.path_requests.specs.Meaning.{present_cost, names_from, range_of, is_free, variable_of}
 use Rattle.cost_base.proofs.ListLemmas.{map-agree}
@@ -237,8 +237,8 @@ routers_back_are chosen d asked files bytes ls w printed =
     router_back_is d.routers bytes ls k file (section_of chosen d asked files bytes ls w k file printed there)
     ∙ ap (λ m. recosted_router (c m) (config_of file.name file.bytes)) place)
 
--- Costs whose sections are printed are read back, where all other free interfaces stand at them: no configuration with its
--- section has a fault, nor their topology, and the graph is the problem's at the costs.
+-- Costs whose sections are printed are read back, where all other free interfaces stand at them: no configuration with
+-- its section has a fault, nor their topology, and the graph is the problem's at the costs.
 pub read_back_for : (chosen : ℕ → Linked → Bool) (d : Input) (bytes : List ℕ) (ls : List CostLine) (w : List ℕ) → IsReadyInput d →
     PrintsSections bytes ls → ls ≡ map (named_cost w) (names_in chosen d) → StandElse chosen d.asked d.database w →
     All (IsPrintable w) (names_in chosen d) → IsReadBackFor d (names_in chosen d) bytes w
@@ -295,7 +295,7 @@ every_name a d l (link ∷ links) =
 
 -- so costs of all free interfaces are
 pub read_back : (d : Input) (bytes : List ℕ) (ls : List CostLine) (w : List ℕ) → IsReadyInput d → PrintsSections bytes ls →
-    Names d.problem ls w → All (λ name. (1 ≤ slice_index w name.var) × (slice_index w name.var ≤ 65535)) d.problem.vars →
+    CostLinesOf w d.problem.vars ls → All (λ name. (1 ≤ slice_index w name.var) × (slice_index w name.var ≤ 65535)) d.problem.vars →
     IsReadBack d bytes w
 read_back d bytes ls w ready prints names within =
     subst (λ (them : List VarName). IsReadBackFor d them bytes w) (sym all)

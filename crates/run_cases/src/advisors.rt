@@ -5,7 +5,7 @@ use design_problem::Entry;
 
 /// An advisor of a case.
 #[derive(Clone, Copy)]
-pub enum Adviser {
+pub enum CaseAdvisor {
     /// Always picks this position, be there such a candidate or not.
     Picks(u32),
     /// Picks the first candidate.

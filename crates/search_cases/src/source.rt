@@ -148,7 +148,7 @@ impl RowSource for FormList {
 
     ghost in_step = { λ s forms. Unit {0} };
 
-    ghost candidates = { λ s. s.forms };
+    ghost possible_forms = { λ s. s.forms };
 
     fn variables(&self) -> u32 {
         self.variables

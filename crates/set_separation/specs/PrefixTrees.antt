@@ -1,5 +1,5 @@
--- The tree of the common prefixes of some paths: place 0 is the empty prefix, and each step leads from a place by an edge
--- to the place whose number is one above the step's.
+-- The tree of the common prefixes of some paths: place 0 is the empty prefix, and each step leads from a place by an
+-- edge to the place whose number is one above the step's.
 use Rattle.std.specs.Prelude.{◌≡◌, ℕ, ◌+◌, ◌<◌, ◌≤◌, ◌⊎◌, List, [], ◌∷◌, ◌++◌, length, slice_index_or, All, Contains}
 use Rattle.area_graph.specs.Area.{Area}
 use Rattle.area_graph.specs.Paths.{Ends, IsPathOf}

@@ -2,12 +2,13 @@
 //! each (Dijkstra's algorithm, with which RFC 2328, 16.1 builds its tree).
 
 ghost use Rattle.std.specs.Prelude.{◌≡◌, ◌≤◌, ◌<◌, ◌*◌, ◌^◌, [], ◌∷◌, ℕ, All, IsPermutation, List, false, length, slice_set, true};
+ghost use Rattle.cost_base.specs.Marks.{is_marked};
 ghost use Rattle.area_graph.specs.Area.{edge_at, edges_in};
 ghost use Rattle.area_graph.specs.Costs.{IsPriced, price_at};
 ghost use Rattle.area_graph.specs.Distances.{AreDistancesTo, FitsSubgraph, far};
 ghost use Rattle.spf_ties.specs.declared.heap.Entry.{Entry};
 ghost use Rattle.spf_ties.specs.Searches.{AreFrontNumbers, GrowsByOne, HasPlaces, IsFrontFor, IsNarrow, NeedsNoMore};
-ghost use Rattle.spf_ties.specs.Searches.{UnderwayIn, is_settled, numbers_in_use};
+ghost use Rattle.spf_ties.specs.Searches.{UnderwayIn, numbers_in_use};
 
 use crate::heap::{Entry, Heap};
 use area_graph::{Point, Price, Subgraph, edge_of, put_distances};
@@ -84,7 +85,7 @@ fn settle(subgraph: &Subgraph<'_>, vertex: u32, front: &mut Front)
     requires narrow { IsNarrow subgraph.now }
     requires vertex { vertex < length subgraph.now.graph.now.vertices }
     requires front { AreFrontNumbers subgraph.now front.old }
-    requires waited { is_settled front.old.settled.items vertex ≡ false }
+    requires waited { is_marked front.old.settled.items vertex ≡ false }
     requires room { HasPlaces subgraph.now front.old }
 
     // The front is still one of a search, and needs no more places than before.

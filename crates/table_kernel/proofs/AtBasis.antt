@@ -121,7 +121,7 @@ not_negative : (m : ℕ) (zs : List ℤ) → 0 < m → LeadsPositive (neg_ℤ (p
 not_negative zero zs m_positive leads = absurd (omega arith)
 not_negative (suc m) zs m_positive leads = leads
 
-lead_less : (g : ℕ) (z : ℤ) (zs ms : List ℤ) → 0 < g → (LeadsPositive zs → LeadsPositive ms) → LeadsPositive ((z *ℤ pos g) ∷ zs) → LeadsPositive (z ∷ ms)
+pub lead_less : (g : ℕ) (z : ℤ) (zs ms : List ℤ) → 0 < g → (LeadsPositive zs → LeadsPositive ms) → LeadsPositive ((z *ℤ pos g) ∷ zs) → LeadsPositive (z ∷ ms)
 lead_less (suc g) (pos zero) zs ms g_positive rest leads =
     rest (subst (λ (m : ℕ). LeadsPositive (pos m ∷ zs)) (zero-mul (suc g)) leads)
 lead_less (suc g) (pos (suc n)) zs ms g_positive rest leads = tt
@@ -241,7 +241,7 @@ ConstantsAre k = AreConstants k.table.costs k.table.rows.items (nat_abs k.common
 -- the basis of a kernel, and a kernel of a basis
 pub kernel_basis : (k : Kernel) → IsKernel k → AreAtBasis k.table.costs k.table.rows.items k.table.basis.items (nat_abs k.common) (lows_of k) × ConstantsAre k
 kernel_basis k m =
-    let u = m.whole.unboxed in
+    let u = m.tableau.unboxed in
     let common : u.common ≡ nat_abs k.common = ap nat_abs m.numbers.common in
     let a = at_basis k.table.top k.table.costs k.table.rows.items k.table.basis.items (stated k).lines.items u in
     let b = subst (λ (D : ℕ). AreAtBasis k.table.costs k.table.rows.items k.table.basis.items D u.lows) common a in (
@@ -305,7 +305,7 @@ basis_kernel k s b box fit a c =
     record {
       shaped = s;
       bounded = b;
-      whole = record {
+      tableau = record {
         box = box;
         fit = fit;
         unboxed = unboxed_of k.table.top D k.table.costs k.table.rows.items k.table.basis.items (lows_of k) (stated k).lines.items a lines;

@@ -193,7 +193,7 @@ module _ (k : Kernel) (common : ℤ) (l : IsLower k common) where
 pub kernel_lower : (k n : Kernel) (common : ℤ) → IsLower k common → IsKernel k → AreConstantsPut (with_common k common) n.constants.items →
     AllWithin (2 ^ 62) n.constants.items → KeepsAllButConstants (with_common k common) n → IsKernel n
 kernel_lower k n common l m are small keeps =
-    put_kernel (with_common k common) n (moving_lower k common l m) m.whole.box m.whole.fit are small keeps
+    put_kernel (with_common k common) n (moving_lower k common l m) m.tableau.box m.tableau.fit are small keeps
 
 -- a table with these lines
 abbrev with_lines : Table → List (List Fraction) → Table

@@ -1,4 +1,5 @@
--- What lines that turn come to in lowest terms: their common denominator, their constants over it, and the lines themselves.
+-- What lines that turn come to in lowest terms: their common denominator, their constants over it, and the lines
+-- themselves.
 use Prim.Native.Nat.{◌∣◌}
 use native.Mathlib.Nat.{div-mul_cancel, mul_assoc, mul_comm, one-dvd}
 use Rattle.std.proofs.Common.{◌≡◌, Bool, ◌↔◌, ℕ, ◌+◌, ◌*◌, ◌/◌, ◌^◌, ◌<◌, ◌≤◌, sym, ◌∙◌, ap, subst, List, length, arith}
@@ -12,7 +13,7 @@ use Rattle.whole_numbers.proofs.Multiples.{left_divides_lcm, right_divides_lcm}
 use Rattle.whole_numbers.proofs.Sizes.{size_positive}
 use Rattle.integer_pivots.specs.declared.line.Line.{Line}
 use Rattle.integer_pivots.specs.declared.lowest.Lowest.{Lowest}
-use Rattle.integer_pivots.specs.declared.turn.Turn.{Turn}
+use Rattle.integer_pivots.specs.declared.turned_line.Turn.{Turn}
 use Rattle.integer_pivots.specs.Lines.{IsLine, no_line}
 use Rattle.integer_pivots.specs.Turns.{AreTurnedLines, IsLowestAfter, IsTurnedLine, MayTurnTo, turn_at}
 use Rattle.integer_pivots.proofs.LowestTurns.{constant_of_line, lowest_divides, lowest_unique, small_of_line}
@@ -37,8 +38,8 @@ pub of_each_lowest : (k : Kernel) (column v : ℕ) (P : Lowest → Type 0) (own 
 of_each_lowest k column v P own own_is holds lowest is =
     subst P (lowest_unique (turn_of_line k column v) column k.entering (line_of k v) own lowest own_is is) holds
 
--- The lines before an index are small in lowest terms, and their denominators go into this number, which is at most 2^30;
--- it goes into each common denominator of what the lines turn to.
+-- The lines before an index are small in lowest terms, and their denominators go into this number, which is at most
+-- 2^30; it goes into each common denominator of what the lines turn to.
 pub record IsLowestTo (k : Kernel) (column i : ℕ) (common : ℤ) : Type 0 where
   pub range : (pos 0 <ℤ common) × (common ≤ℤ pos (2 ^ 30))
   pub each : (v : ℕ) → v < i → (lowest : Lowest) → IsLowestOf k column v lowest → (nat_abs lowest.denominator ∣ nat_abs common) × IsSmallOf k column v lowest

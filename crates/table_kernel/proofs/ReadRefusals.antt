@@ -1,4 +1,5 @@
--- Where the bounds cover a table in fractions, the lines that were read from it have a common denominator, over which their constants fit.
+-- Where the bounds cover a table in fractions, the lines that were read from it have a common denominator, over which
+-- their constants fit.
 use Prim.Native.Nat.{◌∣◌}
 use native.Mathlib.Nat.{div-mul_cancel, mul_assoc, mul_comm}
 use Rattle.std.proofs.Common.{◌≡◌, ℕ, ◌*◌, ◌/◌, ◌^◌, ◌<◌, ◌≤◌, sym, ◌∙◌, ap, subst, List, length, arith}

@@ -16,7 +16,7 @@ use Rattle.integer_pivots.specs.Leads.{AreLeads}
 use Rattle.integer_pivots.specs.declared.line.Line.{Line}
 use Rattle.integer_pivots.specs.Lines.{IsLine, rows_of}
 use Rattle.integer_pivots.specs.Numbers.{AllWithin, weight_of}
-use Rattle.integer_pivots.specs.declared.turn.Turn.{Turn}
+use Rattle.integer_pivots.specs.declared.turned_line.Turn.{Turn}
 use Rattle.integer_pivots.proofs.UseLaws.{uses_kept}
 use Rattle.table_kernel.specs.declared.kernel.Kernel.{Kernel}
 use Rattle.table_kernel.specs.Kernels.{IsBounded, IsKernel, IsShaped, kernel_lines, lows_of, stated, width_of}
@@ -80,8 +80,8 @@ kernel_same old new t h m =
     let lows : lows_of new ≡ lows_of old =
     ap (λ (z : ℤ). map (scaled_line (nat_abs z)) new.lows.items) h.common ∙ ap (λ (ls : Vec Line Global). map (scaled_line D) ls.items) h.lows in
     basis_kernel new (same_shaped old new t h m.shaped) (same_bounded old new t h m.bounded)
-    (subst (λ (box : CostBox). IsBox (length box.low) box) (sym t.costs) m.whole.box)
-    (subst (λ (box : CostBox). All (FitsBox box) new.table.rows.items) (sym t.costs) (subst (All (FitsBox costs)) (sym t.rows) m.whole.fit))
+    (subst (λ (box : CostBox). IsBox (length box.low) box) (sym t.costs) m.tableau.box)
+    (subst (λ (box : CostBox). All (FitsBox box) new.table.rows.items) (sym t.costs) (subst (All (FitsBox costs)) (sym t.rows) m.tableau.fit))
     (subst (λ (box : CostBox). AreAtBasis box new.table.rows.items new.table.basis.items (nat_abs new.common) (lows_of new)) (sym t.costs)
     (subst (λ (fs : List Form). AreAtBasis costs fs new.table.basis.items (nat_abs new.common) (lows_of new)) (sym t.rows)
     (subst (λ (ms : List Member). AreAtBasis costs rows ms (nat_abs new.common) (lows_of new)) (sym t.basis)

@@ -250,7 +250,7 @@ pub started : (k : Kernel) (costs : CostBox) (top : ℕ) →
     IsSound k.table Open → IsStarting k costs → 2 ^ 126 ≤ top → IsKernel k
 started k costs top held sound s large =
     let costs_are : k.table.costs ≡ costs = ap (λ (h : Held). h.costs) held in
-    starting_is k (subst (λ (m : ℕ). 2 ^ 126 ≤ m) (sym (ap (λ (h : Held). h.top) held)) large) (sound.whole tt) sound.room
+    starting_is k (subst (λ (m : ℕ). 2 ^ 126 ≤ m) (sym (ap (λ (h : Held). h.top) held)) large) (sound.tableau tt) sound.room
     (ap (λ (h : Held). h.rows) held)
     (ap (λ (h : Held). h.basis) held ∙ ap starting (sym costs_are))
     (subst (IsStarting k) (sym costs_are) s)

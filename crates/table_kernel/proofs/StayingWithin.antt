@@ -11,7 +11,7 @@ use Rattle.whole_numbers.proofs.FractionLaws.{cancel, over-mul, product_positive
 use Rattle.whole_numbers.proofs.Ring.{num, ◌⊖◌, ◌⊗◌, ring, ring_by, using, nothing, var}
 use Rattle.whole_numbers.proofs.Sizes.{size_positive}
 use Rattle.integer_pivots.specs.declared.line.Line.{Line}
-use Rattle.integer_pivots.specs.declared.turn.Turn.{Turn}
+use Rattle.integer_pivots.specs.declared.turned_line.Turn.{Turn}
 use Rattle.integer_pivots.specs.Lines.{IsLine}
 use Rattle.integer_pivots.specs.Numbers.{greatest_of}
 use Rattle.integer_pivots.specs.Turns.{IsTurnedLine, StaysSmall, denominator_after, turn_at, turned_number}

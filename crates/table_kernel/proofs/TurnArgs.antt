@@ -5,7 +5,7 @@ use Rattle.std.proofs.lemmas.Int.{ints, to_z-of_z}
 use Rattle.std.proofs.lemmas.List.{get_or_default}
 use Rattle.whole_numbers.specs.Lists.{number_at}
 use Rattle.integer_pivots.specs.declared.line.Line.{Line}
-use Rattle.integer_pivots.specs.declared.turn.Turn.{Turn}
+use Rattle.integer_pivots.specs.declared.turned_line.Turn.{Turn}
 use Rattle.integer_pivots.specs.declared.lowest.Lowest.{Lowest}
 use Rattle.integer_pivots.specs.Turns.{IsAtPivot, IsLowestAfter, MayLineTurn, denominator_after, turn_at}
 use Rattle.integer_pivots.specs.Lines.{no_line}

@@ -206,6 +206,6 @@ pub may_put_after : (k h : Kernel) (column : ℕ) (leads : Vec ℕ Global) (z : 
 may_put_after k h column leads z t m put = record {
   shaped = shaped_after k h column leads z t m.shaped put.0 (put.1 m.shaped.lead);
   bounded = bounded_after k h column leads z t m.bounded;
-  fit = subst (λ (u : Table). All (FitsBox u.costs) u.rows.items) (sym t.keeps.table) m.whole.fit;
-  high = subst (λ (u : Table). length u.costs.high ≡ length u.costs.low) (sym t.keeps.table) m.whole.unboxed.high_count;
+  fit = subst (λ (u : Table). All (FitsBox u.costs) u.rows.items) (sym t.keeps.table) m.tableau.fit;
+  high = subst (λ (u : Table). length u.costs.high ≡ length u.costs.low) (sym t.keeps.table) m.tableau.unboxed.high_count;
 }

@@ -57,8 +57,8 @@ pub record KeepsAllButConstants (old new : Kernel) : Type 0 where
   pub left : new.left ≡ old.left
   pub entering : new.entering ≡ old.entering
 
--- The constants of the other forms are what those of x - low, which stand first, make of them: that of high - x for each
--- variable, and those of the rows.
+-- The constants of the other forms are what those of x - low, which stand first, make of them: that of high - x for
+-- each variable, and those of the rows.
 pub record AreByFirst (k : Kernel) (constants : List ℤ) : Type 0 where
   pub count : length constants ≡ length k.constants.items
   pub high : (v : ℕ) → v < width_of k →

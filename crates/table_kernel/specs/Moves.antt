@@ -18,8 +18,8 @@ abbrev pub raised_kernel_line : ℕ → ℤ → Line → Line
 raised_kernel_line column fall line = with_constant line (line.constant +ℤ (fall *ℤ number_at line.numbers column))
 
 -- The lines of x - low after the form x - low of a variable fell: its own constant is less by that many times its
--- denominator, where the form isn't in the basis; else each other rises by its number at that column times the fall, and
--- its own is 0.
+-- denominator, where the form isn't in the basis; else each other rises by its number at that column times the fall,
+-- and its own is 0.
 abbrev pub lines_after_low : List Line → Option ℕ → ℕ → ℤ → List Line
 lines_after_low lines None var fall =
     slice_set lines var (with_constant (slice_index_or lines var no_line)
@@ -27,8 +27,8 @@ lines_after_low lines None var fall =
 lines_after_low lines (Some column) var fall =
     slice_set (map (raised_kernel_line column fall) lines) var (with_constant (slice_index_or lines var no_line) (pos 0))
 
--- The lines of x - low after the form high - x of a variable fell: they stay where the form isn't in the basis; else each
--- rises by its number at that column times the fall.
+-- The lines of x - low after the form high - x of a variable fell: they stay where the form isn't in the basis; else
+-- each rises by its number at that column times the fall.
 abbrev pub lines_after_high : List Line → Option ℕ → ℤ → List Line
 lines_after_high lines None fall = lines
 lines_after_high lines (Some column) fall = map (raised_kernel_line column fall) lines

@@ -45,8 +45,8 @@ pub record FitsOver (D : ℕ) (row : List Fraction) : Type 0 where
 abbrev pub low_row : Table → ℕ → List Fraction
 low_row t var = slice_index_or t.lines.items var []
 
--- The kernel's bounds cover a table in fractions: each row's coefficients; over some denominator each row of x - low; and
--- over a common one their constants.
+-- The kernel's bounds cover a table in fractions: each row's coefficients; over some denominator each row of x - low;
+-- and over a common one their constants.
 pub record MayReadBack (t : Table) : Type 0 where
   pub rows : All IsCovered t.rows.items
   pub denominator : ℕ → ℕ
@@ -57,8 +57,8 @@ pub record MayReadBack (t : Table) : Type 0 where
   pub divides : (var : ℕ) → var < length t.costs.low → denominator var ∣ common
   pub constants : (var : ℕ) → var < length t.costs.low → nat_abs (over_denominator common (entry (low_row t var) 0)) ≤ 2 ^ 44
 
--- What a kernel keeps while its table goes on in fractions: how long its lists are, where its columns lead, and how large
--- its constants are.
+-- What a kernel keeps while its table goes on in fractions: how long its lists are, where its columns lead, and how
+-- large its constants are.
 pub record IsParked (k : Kernel) : Type 0 where
   pub shaped : IsShaped k
   pub constants : AllWithin (2 ^ 62) k.constants.items

@@ -16,7 +16,7 @@ ghost use Rattle.table_kernel.specs.Turns.{KeepsAllButLows, line_of};
 
 use crate::Kernel;
 use crate::kernel::OutOfRange;
-use fraction_rows::TableRow;
+use fraction_rows::TableLine;
 use integer_pivots::{
     CONSTANT_LIMIT, ENTRY_LIMIT, Line, MarkedNumbers, common_multiple, greatest, put_leads,
     share_in, stays_within,
@@ -38,7 +38,7 @@ fn with_denominator(common: i64, value: Frac) -> Option<i64>
 }
 
 /// The least common denominator of a row's fractions, where it is at most 2^30.
-fn denominator_of(row: &TableRow, width: u32) -> Option<i64>
+fn denominator_of(row: &TableLine, width: u32) -> Option<i64>
     requires width { length row.now ≡ suc width }
     ensures { MatchOption result ((D : ℕ) → 0 < D → D ≤ 2 ^ 30 → AllGoInto row.now D → ⊥)
         (IsLeastDenominator row.now) }
@@ -78,7 +78,7 @@ fn number_over(value: Frac, denominator: i64, limit: i64) -> Option<i64>
 /// `OutOfRange` where one of them passes 2^30 in size.
 fn read_numbers(
     numbers: &mut MarkedNumbers,
-    row: &TableRow,
+    row: &TableLine,
     denominator: i64,
 ) -> Result<(), OutOfRange>
     // The row has a fraction for each number, behind its constant; each denominator goes into this one.
@@ -111,7 +111,7 @@ fn read_numbers(
 /// # Errors
 ///
 /// `OutOfRange` where the row is within the bounds of a line over no denominator.
-fn read_line(line: &mut Line, row: &TableRow) -> Result<(), OutOfRange>
+fn read_line(line: &mut Line, row: &TableLine) -> Result<(), OutOfRange>
     // The row has a constant, and a fraction for each number of the line.
     requires row { length row.now ≡ suc (length line.old.numbers) }
     requires few { length line.old.numbers < 2 ^ 32 }
@@ -222,7 +222,7 @@ impl Kernel {
     pub fn read_back(&mut self) -> Result<(), OutOfRange>
         // The kernel is parked; its table's lines are those at the basis, with a top that suffices for a kernel.
         requires parked { IsParked self.old }
-        requires whole { IsTableau self.old.table }
+        requires tableau { IsTableau self.old.table }
         requires top { 2 ^ 126 ≤ self.old.table.top }
 
         // The table stays as it is, and the kernel is fit to be parked in any case.

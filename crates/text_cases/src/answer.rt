@@ -3,9 +3,10 @@
 use crate::configs::config_text;
 use crate::networks::{links_text, network_text};
 use crate::requests::request_text;
-use case_scripts::Texts;
+use case_scripts::{Script, Texts};
 use lsdb_build::Lsdb;
 use std::alloc::{AllocError, Global};
+use std::io;
 
 /// The texts of a script, and the network at hand.
 #[derive(Drop)]
@@ -36,8 +37,8 @@ fn asked(alloc: Global, desk: &Desk, first: &str, more: &str) -> Result<String, 
     }
 }
 
-/// What is answered to a line, to stand behind it.
-pub(crate) fn answer(alloc: Global, desk: &mut Desk, line: &str) -> Result<String, AllocError> {
+/// What is answered to a line.
+fn reply(alloc: Global, desk: &mut Desk, line: &str) -> Result<String, AllocError> {
     if desk.texts.takes(alloc, line)? {
         return Ok(String::new(alloc));
     }
@@ -46,5 +47,11 @@ pub(crate) fn answer(alloc: Global, desk: &mut Desk, line: &str) -> Result<Strin
         "network" => network_text(alloc, &desk.texts, &mut desk.network, rest),
         "links" => links_text(alloc, &desk.network),
         _ => asked(alloc, desk, first, rest),
+    }
+}
+
+impl Script for Desk {
+    fn answer(&mut self, alloc: Global, line: &str) -> io::Result<String> {
+        Ok(reply(alloc, self, line)?)
     }
 }

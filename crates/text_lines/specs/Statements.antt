@@ -86,7 +86,8 @@ text_faults {F} rules file = faults_by_line (fault_of_line rules) [] file ++ hea
 abbrev pub text_fault : {F : Type 0} → TextRules F → List ℕ → Option (FaultyLine F)
 text_fault {F} rules bytes = first_of (text_faults rules (lines bytes))
 
--- a reader stands behind these lines that say something: it knows whether a header is among them, and took the statements
+-- a reader stands behind these lines that say something: it knows whether a header is among them, and took the
+-- statements
 pub record StandsBehind {R : Type 0} (took : R → List SaidLine → Type 0) (reader : R) (begun : Bool) (said : List SaidLine) : Type 0 where
   pub header : begun ≡ has_header said
   pub taken : took reader (behind_header said)

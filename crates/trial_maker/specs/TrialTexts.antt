@@ -1,6 +1,7 @@
 -- Trials with a number of blocks, each with two sides: their routers, configurations and requests.
 use Rattle.std.specs.Prelude.{ℕ, zero, suc, ◌+◌, ◌*◌, ◌/◌, ◌%◌, ◌==◌, List, [], ◌∷◌, ◌++◌, codes, Bool, if◌then◌else◌}
 use Rattle.cost_base.specs.Decimal.{decimal}
+use Rattle.line_builder.specs.Words.{dotted_quad}
 use Rattle.trial_maker.specs.declared.TrialTexts.{TrialTexts}
 
 -- what blocks 0 to n - 1 have, one after another
@@ -32,21 +33,14 @@ block_files i = file_name (upper_router i) ∷ file_name (lower_router i) ∷ fi
 abbrev pub file_names : ℕ → List (List ℕ)
 file_names blocks = file_name (joint 0) ∷ over_blocks block_files blocks
 
--- link k of all blocks has the subnet 10.0.0.0 plus 2k of length 31: its first router has the even address, its second the odd one
+-- link k of all blocks has the subnet 10.0.0.0 plus 2k of length 31: its first router has the even address, its second
+-- the odd one
 abbrev pub first_end : ℕ → ℕ
 first_end k = 167772160 + 2 * k
 
 -- the address of the second router on link k
 abbrev pub second_end : ℕ → ℕ
 second_end k = 167772161 + 2 * k
-
--- an address as a dotted quad
-abbrev pub address_text : ℕ → List ℕ
-address_text a =
-    decimal (a / 16777216)
-    ++ codes "." ++ decimal (a / 65536 % 256)
-    ++ codes "." ++ decimal (a / 256 % 256)
-    ++ codes "." ++ decimal (a % 256)
 
 -- the lines of an interface up to its address
 abbrev pub interface_head : ℕ → List ℕ
@@ -55,7 +49,7 @@ interface_head n = codes "interface e" ++ decimal n ++ codes "\n ip address "
 -- interface number n of a router, with an address
 abbrev pub interface_text : ℕ → ℕ → List ℕ
 interface_text n address =
-    interface_head n ++ address_text address
+    interface_head n ++ dotted_quad address
     ++ codes "/31\n ip ospf area 0\n ip ospf network point-to-point\nexit\n"
 
 -- the router of a side, which is the second router of link k and the first of link k + 1

@@ -1,9 +1,10 @@
 //! Pieces of text, each added at the end of a text.
 ghost use Rattle.std.specs.Prelude.{◌≡◌, ◌∷◌, ◌++◌, OnOk};
 ghost use Rattle.cost_base.specs.Decimal.{decimal};
-ghost use Rattle.trial_maker.specs.TrialTexts.{address_text, interface_head, interface_text};
+ghost use Rattle.trial_maker.specs.TrialTexts.{interface_head, interface_text};
 
 use cost_base::OutOfMemory;
+use line_builder::push_quad;
 use text_lines::{push_bytes, push_number};
 
 /// Adds the name of a router: its letter and its number.
@@ -12,19 +13,6 @@ pub(crate) fn push_router(text: &mut Vec<u8>, letter: u8, number: u32) -> Result
 {
     push_bytes(text, &[letter])?;
     push_number(text, u128::from(number))
-}
-
-/// Adds an address as a dotted quad.
-pub(crate) fn push_quad(text: &mut Vec<u8>, address: u32) -> Result<(), OutOfMemory>
-    ensures { OnOk result (text.new.items ≡ text.old.items ++ address_text address) }
-{
-    push_number(text, u128::from(address / 16_777_216))?;
-    push_bytes(text, b".")?;
-    push_number(text, u128::from(address / 65_536 % 256))?;
-    push_bytes(text, b".")?;
-    push_number(text, u128::from(address / 256 % 256))?;
-    push_bytes(text, b".")?;
-    push_number(text, u128::from(address % 256))
 }
 
 /// Adds a number between two texts.

@@ -2,6 +2,7 @@
 use Rattle.std.proofs.Common.{◌≡◌, ◌≢◌, ℕ, zero, suc, ◌+◌, ◌<◌, cond, refl, sym, ◌∙◌, ap, List, [], ◌∷◌, map, length, arith}
 use Rattle.std.specs.Prelude.{ℤ, pos, negsuc, ◌+ℤ◌, ◌-ℤ◌, ◌*ℤ◌, ◌==◌, neg_ℤ, slice_index, slice_index_or}
 use Rattle.std.proofs.lemmas.List.{get_or-map}
+use Rattle.std.proofs.lemmas.Bool.{eq-eqb, ne_eqb}
 use Rattle.cost_base.specs.Lists.{numbers_from}
 use Rattle.cost_base.proofs.ListLemmas.{map-numbers_from-agree, all_from_each}
 use Rattle.whole_numbers.proofs.Ring.{var, num, ◌⊕◌, ◌⊖◌, ◌⊗◌, neg, ring}
@@ -11,7 +12,6 @@ use Rattle.design_problem.specs.declared.tree.Member.TheVariants.{Low, High}
 use Rattle.design_problem.specs.Forms.{dot, value_for_costs}
 use Rattle.design_problem.specs.Basis.{member_form, unit}
 use Rattle.fraction_table.specs.ValidTables.{AllLong, from_lows, number_of_form, numbers_of_form}
-use Rattle.fraction_rows.proofs.Columns.{same_test, other_test}
 use Rattle.fraction_table.proofs.theory.Blends.{listed_at}
 
 -- the coefficients from a on
@@ -22,7 +22,7 @@ no_units : (v a m place : ℕ) (c : ℤ) (lows : List (List ℤ)) → v < a → 
 no_units v a zero place c lows before = refl
 no_units v a (suc m) place c [] before = refl
 no_units v a (suc m) place c (ts ∷ lows) before =
-    ap (λ b. (cond b c (pos 0) *ℤ number_at ts place) +ℤ from_lows (units v c (a + 1) m) lows place) (other_test a v (apart before))
+    ap (λ b. (cond b c (pos 0) *ℤ number_at ts place) +ℤ from_lows (units v c (a + 1) m) lows place) (ne_eqb a v (apart before))
     ∙ ap (λ z. (pos 0 *ℤ number_at ts place) +ℤ z) (no_units v (a + 1) m place c lows (omega arith))
     ∙ ring (number_at ts place ∷ []) (num (pos 0) ⊗ var 0 ⊕ num (pos 0)) (num (pos 0)) refl
   where
@@ -34,11 +34,11 @@ units_from_lows : (v a i m place : ℕ) (c : ℤ) (lows : List (List ℤ)) → v
 units_from_lows v a i zero place c lows there i_in counted = absurd (omega arith)
 units_from_lows v a i (suc m) place c [] there i_in counted = absurd (omega arith)
 units_from_lows v a zero (suc m) place c (ts ∷ lows) there i_in counted =
-    ap (λ b. (cond b c (pos 0) *ℤ number_at ts place) +ℤ from_lows (units v c (a + 1) m) lows place) (same_test a v (omega arith))
+    ap (λ b. (cond b c (pos 0) *ℤ number_at ts place) +ℤ from_lows (units v c (a + 1) m) lows place) (eq-eqb a v (omega arith))
     ∙ ap (λ z. (c *ℤ number_at ts place) +ℤ z) (no_units v (a + 1) m place c lows (omega arith))
     ∙ ring (c ∷ number_at ts place ∷ []) (var 0 ⊗ var 1 ⊕ num (pos 0)) (var 0 ⊗ var 1) refl
 units_from_lows v a (suc i) (suc m) place c (ts ∷ lows) there i_in counted =
-    ap (λ b. (cond b c (pos 0) *ℤ number_at ts place) +ℤ from_lows (units v c (a + 1) m) lows place) (other_test a v (apart there))
+    ap (λ b. (cond b c (pos 0) *ℤ number_at ts place) +ℤ from_lows (units v c (a + 1) m) lows place) (ne_eqb a v (apart there))
     ∙ ap (λ z. (pos 0 *ℤ number_at ts place) +ℤ z) (units_from_lows v (a + 1) i m place c lows (omega arith) (omega arith) (omega arith))
     ∙ ring (c ∷ number_at ts place ∷ number_at (slice_index_or lows i []) place ∷ []) (num (pos 0) ⊗ var 1 ⊕ var 0 ⊗ var 2) (var 0 ⊗ var 2) refl
   where

@@ -1,11 +1,12 @@
 use Rattle.std.proofs.Common.{◌≡◌, ◌∙◌, ◌&&◌, ℕ, All, List, Bool, Vec, Global, ap, arith, length, map, refl, set, subst, sym, true}
 use Rattle.std.specs.Prelude.{not}
 use Rattle.std.proofs.lemmas.List.Elements.{All-push}
+use Rattle.cost_base.specs.Marks.{is_marked}
 use Rattle.spf_ties.specs.Distances.{Findings, IsRoomFor}
 use Rattle.change_steps.specs.declared.found.Blocked.{Blocked}
 use Rattle.change_steps.specs.declared.state.State.{State}
 use Rattle.change_steps.specs.Kinds.{comes_between, kind_of_step}
-use Rattle.change_steps.specs.States.{MayFollow, is_done_in}
+use Rattle.change_steps.specs.States.{MayFollow}
 use Rattle.change_steps.specs.Outcomes.{IsBarrier}
 use Rattle.change_steps.specs.Search.{IsStateOf}
 use Rattle.change_steps.proofs.EndLaws.{all_blocked, blocked_step, blocks_here, none_barred, none_blocked, unblocked_step}
@@ -56,8 +57,8 @@ loop-step-preserved c =
     let p = c.args.plan.now in
     let marks = c.args.state.now.done.items in
     let step = c.loop-step.step in
-    let tested : c.may_follow.result ≡ (comes_between (kind_of_step p.rollout p.held step) && not (is_done_in marks step)) =
-    c.may_follow.ensures ∙ ap (λ (m : List Bool). comes_between (kind_of_step p.rollout p.held step) && not (is_done_in m step)) (c.deref.ensures.value ∙ c.loop-step.invariant.done) in
+    let tested : c.may_follow.result ≡ (comes_between (kind_of_step p.rollout p.held step) && not (is_marked marks step)) =
+    c.may_follow.ensures ∙ ap (λ (m : List Bool). comes_between (kind_of_step p.rollout p.held step) && not (is_marked m step)) (c.deref.ensures.value ∙ c.loop-step.invariant.done) in
     elim c.if-may_follow.branch [
       | then-may_follow+in_ok-push w ↦
           let pushed = ap (λ (v : Vec Blocked Global). v.items) w.blocked-is ∙ w.in_ok-push.ensures.items in

@@ -1,5 +1,5 @@
 use Rattle.std.proofs.Common.{◌∙◌, ◌++◌, ℕ, List, ap, subst}
-use Rattle.change_steps.specs.declared.walk.End.{End}
+use Rattle.change_steps.specs.declared.state_search.End.{End}
 use Rattle.change_steps.specs.Search.{last_steps, order_behind_first}
 use Rattle.change_steps.specs.Walks.{IsWalkEnded}
 use Rattle.change_steps.proofs.EndLaws.{budget_used_up, complete_order, no_order_found}

@@ -1,6 +1,6 @@
 use Rattle.std.proofs.Common.{◌≡◌, ◌∙◌, ℕ, List, ap}
+use Rattle.cost_base.specs.Marks.{is_one_of}
 use Rattle.change_steps.specs.Rollouts.{Rollout}
-use Rattle.change_steps.specs.Orders.{is_one_of}
 use Rattle.change_steps.specs.States.{marks_of}
 use Rattle.change_steps.specs.Search.{order_behind_first}
 use Rattle.change_steps.specs.Walks.{position_of}

@@ -1,5 +1,5 @@
 use Rattle.std.proofs.Common.{◌∙◌, ℕ, List, ap, arith, cond, get_or, refl, take_all}
-use Rattle.change_steps.specs.Orders.{is_one_of}
+use Rattle.cost_base.specs.Marks.{is_one_of}
 use Rattle.change_steps.proofs.StateLaws.{put_more}
 use Rattle.change_steps.proofs.state.put.Goals as goal
 

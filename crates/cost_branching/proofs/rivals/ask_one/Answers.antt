@@ -7,7 +7,7 @@ use Rattle.cost_branching.proofs.rivals.ask_one.Goals as goal
 pub returns-in_ok-push_row-in-Some-clause-one : goal.returns-in_ok-push_row-in-Some-clause-one
 returns-in_ok-push_row-in-Some-clause-one c = λ point are.
     record {
-      kept = c.keeps_conditions.ensures;
+      kept = c.keeps_problem_on_graph.ensures;
       row = c.in_ok-row-in-Some.row;
       request_is = c.in_ok-row-in-Some.ensures.request;
       cheap = too_cheap_as c.args.problem.now point c.args.request c.in_ok-row-in-Some.row.request

@@ -3,7 +3,7 @@ use Rattle.std.specs.Prelude.{ℤ}
 use Rattle.std.proofs.lemmas.Int.{to_z-of_z}
 use Rattle.std.proofs.lemmas.List.{take_all}
 use Rattle.design_problem.specs.declared.form.Term.{Term}
-use Rattle.design_problem.specs.declared.tally.Payment.{Payment}
+use Rattle.design_problem.specs.declared.payments.Payment.{Payment}
 use Rattle.design_problem.specs.Forms.{AreTerms, coefficient_of, term_of}
 use Rattle.design_problem.specs.Payments.{balance_of}
 use Rattle.design_problem.proofs.PaymentLaws.{balanced_turn, before_later, more_terms}

@@ -3,8 +3,8 @@ use Rattle.std.proofs.lemmas.Result.{IfOk-weaker, err_from_is_err_and}
 use Rattle.design_problem.specs.declared.tree.Side.{Side}
 use Rattle.design_problem.specs.Forms.{Form}
 use Rattle.design_problem.specs.Earnest.{IsLeastPoint}
-use Rattle.form_search.specs.declared.next_entry.Next.{Next}
-use Rattle.form_search.specs.Turns.{IsNextStep}
+use Rattle.form_search.specs.declared.desk.Next.{Next}
+use Rattle.form_search.specs.NextEntries.{IsNextStep}
 use Rattle.form_search.proofs.AdvisorLaws.{asked_next_there, halve_ready}
 use Rattle.form_search.proofs.OtherSources.{least_same, next_same, swapped}
 use Rattle.form_search.proofs.at_box.at_box.Goals as goal

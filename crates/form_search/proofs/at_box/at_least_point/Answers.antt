@@ -3,10 +3,10 @@ use Rattle.std.proofs.lemmas.Result.{err_from_is_err_and}
 use Rattle.area_graph.specs.declared.Point.{Point}
 use Rattle.design_problem.specs.declared.form.CostBox.{CostBox}
 use Rattle.design_problem.specs.Earnest.{IsLeastPoint}
-use Rattle.form_search.specs.Advised.{IsAt}
+use Rattle.form_search.specs.AdvisorsAsked.{IsAt}
 use Rattle.design_problem.specs.Boxes.{IsPointOf}
 use Rattle.form_search.specs.Points.{IsCostsBox, IsIntegralPoint}
-use Rattle.form_search.specs.Turns.{IsSplitAt}
+use Rattle.form_search.specs.NextEntries.{IsSplitAt}
 use Rattle.form_search.proofs.AdvisorLaws.{ready_there}
 use Rattle.form_search.proofs.NextEntries.{next_split_at}
 use Rattle.form_search.proofs.at_box.at_least_point.Goals as goal

@@ -42,7 +42,7 @@ pub returns-in_err-whole_costs-clause-in_step : goal.returns-in_err-whole_costs-
 returns-in_err-whole_costs-clause-in_step g c = λ forms. (λ is. is, λ is. is)
 
 pub returns-in_err-whole_costs-clause-same : goal.returns-in_err-whole_costs-clause-same
-returns-in_err-whole_costs-clause-same g c = same_alike g.S.RowSource.count g.S.RowSource.accepted g.S.RowSource.true_form g.S.RowSource.candidates c.args.source.now
+returns-in_err-whole_costs-clause-same g c = same_alike g.S.RowSource.count g.S.RowSource.accepted g.S.RowSource.true_form g.S.RowSource.possible_forms c.args.source.now
 
 pub are_values_accepted-requires-clause-ranges : goal.are_values_accepted-requires-clause-ranges
 are_values_accepted-requires-clause-ranges g c = c.requires.ranges
@@ -87,7 +87,7 @@ pub returns-in_ok-whole_costs-clause-in_step : goal.returns-in_ok-whole_costs-cl
 returns-in_ok-whole_costs-clause-in_step g c = λ forms. (λ is. is, λ is. is)
 
 pub returns-in_ok-whole_costs-clause-same : goal.returns-in_ok-whole_costs-clause-same
-returns-in_ok-whole_costs-clause-same g c = same_alike g.S.RowSource.count g.S.RowSource.accepted g.S.RowSource.true_form g.S.RowSource.candidates c.args.source.now
+returns-in_ok-whole_costs-clause-same g c = same_alike g.S.RowSource.count g.S.RowSource.accepted g.S.RowSource.true_form g.S.RowSource.possible_forms c.args.source.now
 
 pub returns-in_ok-value_costs-clause-found : goal.returns-in_ok-value_costs-clause-found
 returns-in_ok-value_costs-clause-found g c =

@@ -5,8 +5,8 @@ use Rattle.design_problem.specs.declared.form.CostBox.{CostBox}
 use Rattle.design_problem.specs.declared.tree.Entry.{Entry}
 use Rattle.design_problem.specs.declared.tree.Side.{Side}
 use Rattle.design_problem.specs.OpenPlaces.{first_place}
-use Rattle.form_search.specs.declared.next_entry.Next.{Next}
-use Rattle.form_search.specs.Turns.{IsNextOfPoint, IsNextRow, IsNextStep, IsUnsplit, IsWatch}
+use Rattle.form_search.specs.declared.desk.Next.{Next}
+use Rattle.form_search.specs.NextEntries.{IsNextOfPoint, IsNextRow, IsNextStep, IsUnsplit, IsWatch}
 use Rattle.form_search.proofs.AdvisorLaws.{asked_in, row_ready, unsplit_ready}
 use Rattle.form_search.proofs.at_box.next_at.Goals as goal
 

@@ -3,9 +3,9 @@ use Rattle.area_graph.specs.declared.Point.{Point}
 use Rattle.area_graph.specs.Costs.{at_costs}
 use Rattle.design_problem.specs.Forms.{AreMet}
 use Rattle.form_search.specs.declared.source.Asked.{Asked}
-use Rattle.form_search.specs.declared.next_entry.Next.TheVariants.{Costs}
+use Rattle.form_search.specs.declared.desk.Next.TheVariants.{Costs}
 use Rattle.form_search.specs.Sources.{IsSourceAnswer}
-use Rattle.form_search.specs.Turns.{IsNextOfPoint}
+use Rattle.form_search.specs.NextEntries.{IsNextOfPoint}
 use Rattle.form_search.proofs.CostPoints.{one_costs, one_inside, one_least, one_met}
 use Rattle.form_search.proofs.one_point.ask_there.Goals as goal
 

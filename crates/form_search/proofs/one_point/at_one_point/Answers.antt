@@ -4,8 +4,8 @@ use Rattle.design_problem.specs.Forms.{Form}
 use Rattle.design_problem.specs.Boxes.{greatest}
 use Rattle.design_problem.specs.Forms.{form_at}
 use Rattle.design_problem.specs.declared.tree.Entry.{Entry}
-use Rattle.form_search.specs.declared.next_entry.Next.TheVariants.{Entry as ByEntry}
-use Rattle.form_search.specs.Turns.{IsUnsplit}
+use Rattle.form_search.specs.declared.desk.Next.TheVariants.{Entry as ByEntry}
+use Rattle.form_search.specs.NextEntries.{IsUnsplit}
 use Rattle.form_search.proofs.NextEntries.{next_refute, row_next}
 use Rattle.form_search.proofs.one_point.at_one_point.Goals as goal
 

@@ -40,9 +40,9 @@ rounds-smaller g c =
     let source = c.rounds.source in
     let pool = c.relax_once.new.pool in
     let left = c.relax_once.ensures.left in
-    let before = missing (g.S.RowSource.candidates source) c.rounds.pool in
-    subst (λ (candidates : List Form). missing candidates pool < before) (sym left.same.same_candidates)
-    (new_falls (g.S.RowSource.true_form source) (g.S.RowSource.candidates source) c.rounds.pool pool
+    let before = missing (g.S.RowSource.possible_forms source) c.rounds.pool in
+    subst (λ (possible_forms : List Form). missing possible_forms pool < before) (sym left.same.same_possible_forms)
+    (new_falls (g.S.RowSource.true_form source) (g.S.RowSource.possible_forms source) c.rounds.pool pool
     (g.met.S.RowSource.true_forms_listed source) left.grows (goes_on g c).has_new)
 
 pub rounds-preserved : goal.rounds-preserved

@@ -13,4 +13,4 @@ invariant-rounds g l = record {
 }
 
 abbrev pub decreases-rounds : goal.decreases-rounds
-decreases-rounds g l = missing (g.S.RowSource.candidates l.source) l.pool
+decreases-rounds g l = missing (g.S.RowSource.possible_forms l.source) l.pool

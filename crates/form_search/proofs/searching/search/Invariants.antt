@@ -1,8 +1,8 @@
 use Rattle.std.proofs.Common.{◌≡◌}
 use Rattle.design_problem.specs.Earnest.{IsLeastPoint}
-use Rattle.form_search.specs.Advised.{AreAllTold, AreCalledAlong, IsPick}
+use Rattle.form_search.specs.AdvisorsAsked.{AreAllTold, AreCalledAlong, IsPick}
 use Rattle.form_search.specs.Calls.{Leaves}
-use Rattle.form_search.specs.Turns.{IsDesk}
+use Rattle.form_search.specs.NextEntries.{IsDesk}
 use Rattle.form_search.proofs.GrowingTrees.{IsGrowing, left_of}
 use Rattle.form_search.proofs.searching.search.Given as goal
 
@@ -20,4 +20,4 @@ invariant-boxes g l = record {
 }
 
 abbrev pub decreases-boxes : goal.decreases-boxes
-decreases-boxes g l = left_of l.limits.nodes (g.S.RowSource.candidates l.initial.source) l.pool l.tree
+decreases-boxes g l = left_of l.limits.nodes (g.S.RowSource.possible_forms l.initial.source) l.pool l.tree

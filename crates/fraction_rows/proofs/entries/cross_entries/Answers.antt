@@ -3,7 +3,7 @@ use Rattle.std.proofs.Common.{◌≡◌, ℕ, ◌<◌, ◌∙◌, List, ap, sym,
 use Rattle.std.proofs.lemmas.Result.{err_from_is_err_and}
 use Rattle.whole_numbers.specs.Fractions.{Fraction, IsLowest, minus, times}
 use Rattle.wide_fraction.specs.declared.steps.Wide.{Wide}
-use Rattle.fraction_rows.specs.TableRows.{IsTableNumber, fraction_at, nothing}
+use Rattle.fraction_rows.specs.TableLines.{IsTableNumber, fraction_at, nothing}
 use Rattle.fraction_rows.specs.Entries.{IsTermStep, after_column, crossed_at, head_column, head_fraction}
 use Rattle.fraction_rows.proofs.ZeroFractions.{nothing_lowest, nothing_number, crossed_nothing}
 use Rattle.fraction_rows.proofs.Columns.{ahead_nothing, ahead_same, head_number, after_numbers, put_numbers}

@@ -3,7 +3,7 @@ use Rattle.std.proofs.Common.{◌≡◌, ℕ, ◌∙◌, [], ap, refl, subst, ar
 use Rattle.std.proofs.lemmas.Result.{err_from_is_err_and}
 use Rattle.whole_numbers.specs.Fractions.{Fraction, divided}
 use Rattle.wide_fraction.specs.declared.steps.Wide.{Wide}
-use Rattle.fraction_rows.specs.TableRows.{fraction_at, nothing}
+use Rattle.fraction_rows.specs.TableLines.{fraction_at, nothing}
 use Rattle.fraction_rows.specs.Entries.{IsQuotientStep, divided_at, head_column}
 use Rattle.fraction_rows.proofs.ZeroFractions.{nothing_number, nothing_divided}
 use Rattle.fraction_rows.proofs.Columns.{test_cases, head_number, after_numbers, put_numbers}

@@ -7,7 +7,7 @@ use Rattle.whole_numbers.specs.Fractions.{Fraction, plus, times, whole}
 use Rattle.wide_fraction.specs.Widths.{IsWithin}
 use Rattle.fraction_rows.specs.Entries.{IsPassing}
 use Rattle.design_problem.specs.Basis.{entry}
-use Rattle.fraction_rows.specs.TableRows.{nothing}
+use Rattle.fraction_rows.specs.TableLines.{nothing}
 use Rattle.fraction_rows.proofs.ZeroFractions.{lowest_zero, minus_nothing, times_nothing}
 use Rattle.fraction_rows.proofs.NamedSteps.{named_passes}
 use Rattle.fraction_rows.proofs.RowLaws.{number_at}

@@ -3,7 +3,7 @@ use Rattle.std.proofs.Common.{◌≡◌}
 use Rattle.std.specs.Prelude.{fold, take}
 use Rattle.whole_numbers.specs.Fractions.{plus}
 use Rattle.design_problem.specs.Steps.{terms}
-use Rattle.fraction_rows.specs.TableRows.{IsTableNumber}
+use Rattle.fraction_rows.specs.TableLines.{IsTableNumber}
 use Rattle.fraction_rows.proofs.sum.sum_at.Given as goal
 
 abbrev pub invariant-loop-term : goal.invariant-loop-term

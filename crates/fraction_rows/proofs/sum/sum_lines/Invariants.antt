@@ -4,7 +4,7 @@ use Rattle.std.specs.Prelude.{fold, take}
 use Rattle.whole_numbers.specs.Fractions.{plus}
 use Rattle.design_problem.specs.Basis.{entry}
 use Rattle.design_problem.specs.Steps.{terms}
-use Rattle.fraction_rows.specs.TableRows.{AreTableNumbers}
+use Rattle.fraction_rows.specs.TableLines.{AreTableNumbers}
 use Rattle.fraction_rows.proofs.sum.sum_lines.Given as goal
 
 abbrev pub invariant-loop-term : goal.invariant-loop-term

@@ -5,7 +5,7 @@ use Rattle.cost_base.specs.declared.StepName.TheVariants.{Add, Mul}
 use Rattle.whole_numbers.specs.Fractions.{Fraction, times}
 use Rattle.wide_fraction.specs.declared.steps.Wide.{Wide}
 use Rattle.design_problem.specs.Basis.{entry}
-use Rattle.fraction_rows.specs.TableRows.{IsTableNumber}
+use Rattle.fraction_rows.specs.TableLines.{IsTableNumber}
 use Rattle.fraction_table.specs.Moves.{IsRaiseStep}
 use Rattle.fraction_table.specs.Moves.IsRaiseStep.{product, sum}
 use Rattle.fraction_rows.proofs.RowLaws.{number_at}

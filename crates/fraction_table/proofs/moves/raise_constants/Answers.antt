@@ -5,8 +5,8 @@ use Rattle.std.proofs.lemmas.List.Edits.{map_over_more}
 use Rattle.std.proofs.lemmas.List.{get_or_default}
 use Rattle.std.proofs.lemmas.Result.{err_from_is_err_and}
 use Rattle.whole_numbers.specs.Fractions.{Fraction}
-use Rattle.fraction_rows.specs.TableRows.{IsWideStep}
-use Rattle.fraction_rows.specs.Turns.{AreTableRows}
+use Rattle.fraction_rows.specs.TableLines.{IsWideStep}
+use Rattle.fraction_rows.specs.Turns.{AreTableLines}
 use Rattle.fraction_table.specs.Moves.{IsRaiseStep, raised_line}
 use Rattle.fraction_rows.proofs.RowLaws.{rows_at, rows_set, later_same}
 use Rattle.fraction_table.proofs.moves.raise_constants.Goals.{After-raise_constant}
@@ -26,8 +26,8 @@ raise_constant-requires c =
     })
 
 -- the lines stay numbers within the top
-numbers_kept : (c : After-raise_constant) → (count : ℕ) → AreTableRows c.args.top count c.args.lines.now →
-    AreTableRows c.args.top count (slice_set c.loop-line.lines c.loop-line.line-index c.raise_constant.new.line)
+numbers_kept : (c : After-raise_constant) → (count : ℕ) → AreTableLines c.args.top count c.args.lines.now →
+    AreTableLines c.args.top count (slice_set c.loop-line.lines c.loop-line.line-index c.raise_constant.new.line)
 numbers_kept c count rows =
     let i = c.loop-line.line-index in
     let d = c.line-item.result in

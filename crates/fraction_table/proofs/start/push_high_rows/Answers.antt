@@ -13,14 +13,14 @@ loop-var-preserved c =
     let line = c.in_ok-bound_row.field-0 in
     let fits : SFits w64 c.range_of-range.result = search rules in
     record {
-      rows = put_more c.args.rows.now.items c.loop-var.rows.items c.push_row.new.rows.items
+      rows = put_more c.args.rows.now.items c.loop-var.rows.items c.push_last.new.things.items
           (λ v. whole (pos (slice_index c.args.high.now v) -ℤ pos (slice_index c.args.low.now v))
-          ∷ map whole (unit (length c.args.low.now) v (negsuc 0))) c.loop-var.var line c.in_ok-push_row.ensures
+          ∷ map whole (unit (length c.args.low.now) v (negsuc 0))) c.loop-var.var line c.in_ok-push_last.ensures.added
           c.loop-var.invariant.rows (c.in_ok-bound_row.ensures.row
           ∙ ap (λ z. whole z ∷ map whole (unit (length c.args.low.now) c.loop-var.var (negsuc 0)))
           (to_z-of_z w64 c.range_of-range.result fits ∙ c.range_of-range.ensures.range));
-      numbers = rows_more c.args.top (suc (length c.args.low.now)) c.loop-var.rows.items c.push_row.new.rows.items line
-          c.in_ok-push_row.ensures c.loop-var.invariant.numbers
+      numbers = rows_more c.args.top (suc (length c.args.low.now)) c.loop-var.rows.items c.push_last.new.things.items line
+          c.in_ok-push_last.ensures.added c.loop-var.invariant.numbers
           (unit_line_long line (length c.args.low.now) c.loop-var.var _ (negsuc 0) c.in_ok-bound_row.ensures.row)
           c.in_ok-bound_row.ensures.numbers;
     }

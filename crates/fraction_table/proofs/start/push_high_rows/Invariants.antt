@@ -4,7 +4,7 @@ use Rattle.std.specs.Prelude.{pos, negsuc, ◌-ℤ◌, slice_index}
 use Rattle.cost_base.specs.Lists.{numbers_from}
 use Rattle.whole_numbers.specs.Fractions.{whole}
 use Rattle.design_problem.specs.Basis.{unit}
-use Rattle.fraction_rows.specs.Turns.{AreTableRows}
+use Rattle.fraction_rows.specs.Turns.{AreTableLines}
 use Rattle.fraction_table.proofs.start.push_high_rows.Given as goal
 
 abbrev pub invariant-loop-var : goal.invariant-loop-var
@@ -12,5 +12,5 @@ invariant-loop-var l = record {
   rows : l.rows.items ≡ l.initial.rows.items
       ++ map (λ v. whole (pos (slice_index l.high v) -ℤ pos (slice_index l.low v))
       ∷ map whole (unit (length l.low) v (negsuc 0))) (numbers_from 0 l.var);
-  numbers : AreTableRows l.top (suc (length l.low)) l.rows.items;
+  numbers : AreTableLines l.top (suc (length l.low)) l.rows.items;
 }

@@ -11,11 +11,11 @@ pub loop-var-preserved : goal.loop-var-preserved
 loop-var-preserved c =
     let line = c.in_ok-bound_row.field-0 in
     record {
-      rows = put_more c.args.rows.now.items c.loop-var.rows.items c.push_row.new.rows.items
-          (λ v. whole (pos 0) ∷ map whole (unit c.args.width v (pos 1))) c.loop-var.var line c.in_ok-push_row.ensures
+      rows = put_more c.args.rows.now.items c.loop-var.rows.items c.push_last.new.things.items
+          (λ v. whole (pos 0) ∷ map whole (unit c.args.width v (pos 1))) c.loop-var.var line c.in_ok-push_last.ensures.added
           c.loop-var.invariant.rows c.in_ok-bound_row.ensures.row;
-      numbers = rows_more c.args.top (suc c.args.width) c.loop-var.rows.items c.push_row.new.rows.items line
-          c.in_ok-push_row.ensures c.loop-var.invariant.numbers
+      numbers = rows_more c.args.top (suc c.args.width) c.loop-var.rows.items c.push_last.new.things.items line
+          c.in_ok-push_last.ensures.added c.loop-var.invariant.numbers
           (unit_line_long line c.args.width c.loop-var.var (pos 0) (pos 1) c.in_ok-bound_row.ensures.row)
           c.in_ok-bound_row.ensures.numbers;
     }

@@ -4,11 +4,11 @@ use Rattle.std.specs.Prelude.{pos}
 use Rattle.cost_base.specs.Lists.{numbers_from}
 use Rattle.whole_numbers.specs.Fractions.{whole}
 use Rattle.design_problem.specs.Basis.{unit}
-use Rattle.fraction_rows.specs.Turns.{AreTableRows}
+use Rattle.fraction_rows.specs.Turns.{AreTableLines}
 use Rattle.fraction_table.proofs.start.push_low_rows.Given as goal
 
 abbrev pub invariant-loop-var : goal.invariant-loop-var
 invariant-loop-var l = record {
   rows : l.rows.items ≡ l.initial.rows.items ++ map (λ v. whole (pos 0) ∷ map whole (unit l.width v (pos 1))) (numbers_from 0 l.var);
-  numbers : AreTableRows l.top (suc l.width) l.rows.items;
+  numbers : AreTableLines l.top (suc l.width) l.rows.items;
 }

@@ -26,4 +26,4 @@ returns-in-Costs c =
     (Costs c.in-Costs.costs) =
     subst (λ (box : CostBox). IsSearchResult (LeadsWithin p c.args.most) limits.top limits.nodes forms box
     (Costs c.in-Costs.costs)) c.in_ok-costs.ensures.cut found in
-    costs_found p c.args.cap c.args.most c.in-Costs.costs c.keeps_conditions.ensures.problem in_box.0 in_box.1
+    costs_found p c.args.cap c.args.most c.in-Costs.costs c.keeps_problem_on_graph.ensures.problem in_box.0 in_box.1

@@ -1,5 +1,5 @@
 use Rattle.std.proofs.Common.{◌≡◌, List, take, map}
-use Rattle.lsdb_build.specs.Checks.{link_among}
+use Rattle.lsdb_build.specs.Links.{link_among}
 use Rattle.lsdb_build.specs.Neighbours.{Port}
 use Rattle.lsdb_build.specs.Places.{ArePlaces}
 use Rattle.lsdb_build.proofs.links.links_by.Given as goal

@@ -40,7 +40,7 @@ leave_by-requires-clause-way c =
     subst (λ (r : Findings). HasWay g p ends (with_edge r e) (edge_at g e).to) (sym c.put_front.ensures)
     (way_from g p ends c.requires.found.limit room wanted walk place e c.args.best.cost c.keeps_conditions.ensures.fits
     c.requires.fits c.requires.found.found c.requires.path c.requires.best.0
-    (λ k i other offer. c.requires.best.1 k i other offer.within offer) c.requires.cheap c.requires.found.above
+    (λ k i other deviation. c.requires.best.1 k i other deviation.within deviation) c.requires.cheap c.requires.found.above
     (ap (λ (es : List ℕ). take place es ++ e ∷ []) c.as_slice.ensures))
 
 pub returns-clause-cheapest : goal.returns-clause-cheapest
@@ -58,5 +58,5 @@ returns-clause-cheapest c =
     c.leave_by.ensures.followed in
     followed_cheapest g p ends c.requires.found.limit room wanted walk c.leave_by.new.room.path place e c.args.best.cost
     c.keeps_conditions.ensures.fits c.requires.fits c.requires.found.found c.requires.path c.requires.best.0
-    (λ k i other offer. c.requires.best.1 k i other offer.within offer) c.requires.cheap c.requires.found.above
+    (λ k i other deviation. c.requires.best.1 k i other deviation.within deviation) c.requires.cheap c.requires.found.above
     (ap (λ (es : List ℕ). take place es ++ e ∷ []) c.as_slice.ensures) followed

@@ -1,11 +1,11 @@
 use Rattle.std.proofs.Common.{◌∙◌, ℕ, List, ap, inl, subst, sym}
 use Rattle.std.proofs.lemmas.Bool.{both_ways, not-true}
 use Rattle.cost_base.specs.Lists.{Has}
+use Rattle.cost_base.proofs.MarkLaws.{has_one_of, one_of_has}
 use Rattle.area_graph.specs.declared.Edge.{Edge}
 use Rattle.area_graph.specs.Area.{Area, edge_at}
 use Rattle.design_problem.specs.declared.problem.Request.{Request}
 use Rattle.change_steps.specs.Reaches.{price_rises}
-use Rattle.change_steps.proofs.StateCosts.{has_one_of, one_of_has}
 use Rattle.change_steps.proofs.reach.Reach.is_harmless.Goals as goal
 
 pub returns-then-contains : goal.returns-then-contains

@@ -1,13 +1,13 @@
 use Rattle.std.proofs.Common.{◌≡◌, ◌<◌, ◌∙◌, ℕ, All, List, ap, length, length-set, subst, sym}
+use Rattle.cost_base.specs.Marks.{is_marked}
 use Rattle.area_graph.specs.declared.Point.{Point}
 use Rattle.change_steps.proofs.StateCosts.{length-costs_in}
 use Rattle.change_steps.proofs.StateLaws.{do_costs, lines_known, point_is}
-use Rattle.change_steps.specs.States.{is_done_in}
 use Rattle.change_steps.proofs.state.State.do_step.Goals as goal
 use Rattle.change_steps.proofs.state.State.do_step.Goals.{After-wanted}
 
 as_long : (c : After-wanted) → length c.args.self.now.point.values ≡ length c.args.rollout.now.moves.present
-as_long c = ap (λ (p : Point). length p.values) c.requires.state.point ∙ length-costs_in c.args.rollout.now.moves (is_done_in c.args.self.now.done.items)
+as_long c = ap (λ (p : Point). length p.values) c.requires.state.point ∙ length-costs_in c.args.rollout.now.moves (is_marked c.args.self.now.done.items)
 
 pub put-requires-clause-known : goal.put-requires-clause-known
 put-requires-clause-known c =

@@ -30,4 +30,4 @@ return_to_kernel-requires-clause-active c =
       | else-self w ↦ ap (λ (b : ActiveTable). b.kernel.table.costs) w.self-is
     ] in
     let box = subst (λ (b : CostBox). IsBox (length b.low) costs) (sym costs_are) c.requires.ranges in
-    moved_beside a c.rebase-2.new.self costs out active box c.rebase-2.ensures.rebased c.rebase-2.ensures.whole c.rebase-2.ensures.room
+    moved_beside a c.rebase-2.new.self costs out active box c.rebase-2.ensures.rebased c.rebase-2.ensures.tableau c.rebase-2.ensures.room

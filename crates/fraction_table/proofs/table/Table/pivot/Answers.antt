@@ -7,8 +7,8 @@ use Rattle.std.proofs.lemmas.Result.{err_from_is_err_and}
 use Rattle.whole_numbers.specs.Fractions.{Fraction, divided, whole}
 use Rattle.design_problem.specs.declared.tree.Member.{Member}
 use Rattle.design_problem.specs.Basis.{entry}
-use Rattle.fraction_rows.specs.TableRows.{AreTableNumbers, IsWideStep, divided_without}
-use Rattle.fraction_rows.specs.Turns.{AreTableRows, IsQuotientStepOf, TurnsWide}
+use Rattle.fraction_rows.specs.TableLines.{AreTableNumbers, IsWideStep, divided_without}
+use Rattle.fraction_rows.specs.Turns.{AreTableLines, IsQuotientStepOf, TurnsWide}
 use Rattle.fraction_table.specs.ValidTables.{IsTableauOf}
 use Rattle.fraction_table.specs.Pivots.{line_at, member_at}
 use Rattle.fraction_table.specs.Ranks.{digits_number, heights, past_heights, rank}
@@ -25,18 +25,18 @@ lines_kept : {X Z : Type 0} (rows : Vec X Z) (news : List X) → length news ≡
 lines_kept rows news counted = with_items_is rows news (omega (arith, counted, rows.ok.0))
 
 pub member_at-member-requires-clause-line : goal.member_at-member-requires-clause-line
-member_at-member-requires-clause-line c = member_in c.args.self.now c.requires.whole c.args.line c.requires.pivot.line_in
+member_at-member-requires-clause-line c = member_in c.args.self.now c.requires.tableau c.args.line c.requires.pivot.line_in
 
 pub take_quotients-requires-clause-width : goal.take_quotients-requires-clause-width
 take_quotients-requires-clause-width c =
-    c.requires.room.quotients ∙ sym (line_long c.args.self.now c.requires.whole c.args.line c.requires.pivot.line_in)
+    c.requires.room.quotients ∙ sym (line_long c.args.self.now c.requires.tableau c.args.line c.requires.pivot.line_in)
     ∙ ap length (sym (line_read c.args.self.now c.args.line c.index.result.now c.index.ensures c.requires.pivot.line_in))
 
 pub take_quotients-requires-clause-numbers : goal.take_quotients-requires-clause-numbers
 take_quotients-requires-clause-numbers c =
     let t = c.args.self.now in
     subst (AreTableNumbers t.top) (sym (line_read t c.args.line c.index.result.now c.index.ensures c.requires.pivot.line_in))
-    (whole_line t c.requires.whole c.args.line c.requires.pivot.line_in).numbers
+    (whole_line t c.requires.tableau c.args.line c.requires.pivot.line_in).numbers
 
 pub returns-in_err-inverse-clause-wide : goal.returns-in_err-inverse-clause-wide
 returns-in_err-inverse-clause-wide c =
@@ -44,7 +44,7 @@ returns-in_err-inverse-clause-wide c =
     let t = c.args.self.now in
     let wide = c.in_err-inverse.field-0.0 in
     rw (p.1, p.2)
-    (quotients_wide t c.requires.whole c.args.line c.args.column c.requires.pivot.line_in c.requires.pivot.pivot wide
+    (quotients_wide t c.requires.tableau c.args.line c.args.column c.requires.pivot.line_in c.requires.pivot.pivot wide
     (subst (λ (row : List Fraction). IsWideStep t.top (IsQuotientStepOf row (suc c.args.column)) wide.step wide.left
     wide.right) (line_read t c.args.line c.index.result.now c.index.ensures c.requires.pivot.line_in)
     c.in_err-inverse.ensures.wide))
@@ -52,18 +52,18 @@ returns-in_err-inverse-clause-wide c =
 pub turn_rows-requires-clause-rows : goal.turn_rows-requires-clause-rows
 turn_rows-requires-clause-rows c =
     let t = c.args.self.now in
-    subst (λ (count : ℕ). AreTableRows t.top count c.as_mut_slice.result.now) (sym (c.take_quotients.ensures.width ∙ c.requires.room.quotients))
-    (subst (AreTableRows t.top (suc (length t.costs.low))) (sym c.as_mut_slice.ensures.value) (whole_rows t c.requires.whole))
+    subst (λ (count : ℕ). AreTableLines t.top count c.as_mut_slice.result.now) (sym (c.take_quotients.ensures.width ∙ c.requires.room.quotients))
+    (subst (AreTableLines t.top (suc (length t.costs.low))) (sym c.as_mut_slice.ensures.value) (whole_rows t c.requires.tableau))
 
 pub turn_rows-requires-clause-pivot : goal.turn_rows-requires-clause-pivot
 turn_rows-requires-clause-pivot c =
     let t = c.args.self.now in
     let row = c.index.result.now in
     let row_is = line_read t c.args.line row c.index.ensures c.requires.pivot.line_in in
-    let long = line_long t c.requires.whole c.args.line c.requires.pivot.line_in in
-    let counted = c.requires.whole.unboxed.count in
+    let long = line_long t c.requires.tableau c.args.line c.requires.pivot.line_in in
+    let counted = c.requires.tableau.unboxed.count in
     let here = number_there t.top (line_at t c.args.line) (suc c.args.column)
-    (whole_line t c.requires.whole c.args.line c.requires.pivot.line_in).numbers
+    (whole_line t c.requires.tableau c.args.line c.requires.pivot.line_in).numbers
     (omega (arith, long, c.requires.pivot.pivot.column, counted)) in
     record {
       place_in = omega (arith, c.take_quotients.ensures.width, c.requires.room.quotients, c.requires.pivot.pivot.column, counted);
@@ -86,7 +86,7 @@ returns-in_err-turn_rows-clause-wide c =
     let wide = c.in_err-turn_rows.field-0.0 in
     let row_is = line_read t c.args.line c.index.result.now c.index.ensures c.requires.pivot.line_in in
     rw (p.1, p.2)
-    (turning_wide t c.requires.whole c.args.line c.args.column c.take_quotients.new.quotients c.in_ok-inverse.inverse c.requires.pivot.line_in c.requires.pivot.pivot
+    (turning_wide t c.requires.tableau c.args.line c.args.column c.take_quotients.new.quotients c.in_ok-inverse.inverse c.requires.pivot.line_in c.requires.pivot.pivot
     (c.in_ok-inverse.ensures.divided.row_is ∙ ap (λ (row : List Fraction). divided_without (suc c.args.column) (entry row (suc c.args.column)) row 0) row_is)
     (c.in_ok-inverse.ensures.divided.inverse_is ∙ ap (λ (row : List Fraction). divided (whole (pos 1)) (entry row (suc c.args.column))) row_is)
     wide
@@ -110,22 +110,22 @@ news_kept c =
     let t = c.args.self.now in
     lines_kept t.lines c.turn_rows.new.rows (ap length (news_are c) ∙ length-map t.lines.items (turned_line (line_at t c.args.line) (suc c.args.column)))
 
-news_numbers : (c : In_ok-turn_rows) → AreTableRows c.args.self.now.top (suc (length c.args.self.now.costs.low)) c.turn_rows.new.rows
+news_numbers : (c : In_ok-turn_rows) → AreTableLines c.args.self.now.top (suc (length c.args.self.now.costs.low)) c.turn_rows.new.rows
 news_numbers c =
-    subst (λ (count : ℕ). AreTableRows c.args.self.now.top count c.turn_rows.new.rows) (c.take_quotients.ensures.width
+    subst (λ (count : ℕ). AreTableLines c.args.self.now.top count c.turn_rows.new.rows) (c.take_quotients.ensures.width
     ∙ c.requires.room.quotients) c.in_ok-turn_rows.ensures.numbers
 
-pub returns-clause-whole : goal.returns-clause-whole
-returns-clause-whole c =
+pub returns-clause-tableau : goal.returns-clause-tableau
+returns-clause-tableau c =
     let t = c.args.self.now in
     let news = c.turn_rows.new.rows in
-    let turned = (goal.at.returns-clause-whole c).In_ok-turn_rows in
+    let turned = (goal.at.returns-clause-tableau c).In_ok-turn_rows in
     subst (λ (m : Member). IsTableauOf t.top t.costs t.rows.items (slice_set t.basis.items c.args.column m)
     (with_items t.lines news).items) (sym c.member_at-member.ensures)
     (subst (λ (lines : List (List Fraction)).
     IsTableauOf t.top t.costs t.rows.items (slice_set t.basis.items c.args.column (member_at t c.args.line)) lines)
     (sym (news_kept turned))
-    (pivot_whole t c.requires.whole c.args.line c.args.column news c.requires.pivot.line_in c.requires.pivot.pivot c.requires.pivot.least (news_are turned) (news_numbers turned)))
+    (pivot_whole t c.requires.tableau c.args.line c.args.column news c.requires.pivot.line_in c.requires.pivot.pivot c.requires.pivot.least (news_are turned) (news_numbers turned)))
 
 pub returns-clause-rises : goal.returns-clause-rises
 returns-clause-rises c =
@@ -133,4 +133,4 @@ returns-clause-rises c =
     let news = c.turn_rows.new.rows in
     let turned = (goal.at.returns-clause-rises c).In_ok-turn_rows in
     subst (λ (lines : List (List Fraction)). rank t < digits_number (past_heights t.top) (heights t.top (length t.costs.low) lines)) (sym (news_kept turned))
-    (rank_rises t c.requires.whole c.args.line c.args.column news c.requires.pivot.line_in c.requires.pivot.pivot c.requires.pivot.least (news_are turned) (news_numbers turned))
+    (rank_rises t c.requires.tableau c.args.line c.args.column news c.requires.pivot.line_in c.requires.pivot.pivot c.requires.pivot.least (news_are turned) (news_numbers turned))

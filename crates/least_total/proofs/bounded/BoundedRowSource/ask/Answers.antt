@@ -1,11 +1,10 @@
 -- First the rows come, then the form of the total where it is negative at the point.
 use Rattle.std.proofs.Common.{[], ◌∷◌, ◌++◌, refl, sym, ◌∙◌, ap, subst}
 use Rattle.std.specs.Prelude.{pos, ◌<ℤ◌, ◌≤ℤ◌}
-use Rattle.design_problem.specs.Problems.{DesignProblem}
+use Rattle.design_problem.specs.Problems.{DesignProblem, IsProblemOnGraph}
 use Rattle.design_problem.specs.Forms.{value_at}
 use Rattle.form_search.specs.Sources.{Grows, IsSourceAnswer}
 use Rattle.form_search.specs.declared.source.Asked.TheVariants.{Added}
-use Rattle.cost_branching.specs.Rivals.{IsProblemOnGraph}
 use Rattle.least_total.specs.Totals.{LeadsWithin, form_of_total}
 use Rattle.least_total.specs.Bounded.{IsPoolWithTotal, BoundedRows, IsTrueWithin}
 use Rattle.least_total.proofs.Bounding.{after_rows, answered_over, answered_within, grows_over, in_step_after, in_step_over, not_come, rows_met}
@@ -58,7 +57,7 @@ returns-clause-grows g c =
     subst (λ (s : BoundedRows). Grows (IsTrueWithin s.known.problem s.most) c.args.pool.now c.add_total.new.pool) c.self.view_is
     (grows_over old.known.problem old.most c.args.pool.now c.ask_all.new.pool c.add_total.new.pool
     (record {
-      kept = subst IsProblemOnGraph c.problem.ensures c.keeps_conditions.ensures;
+      kept = subst IsProblemOnGraph c.problem.ensures c.keeps_problem_on_graph.ensures;
       small = c.self.invariant;
       same = refl;
     }) c.ask_all.ensures.grows came)

@@ -1,7 +1,7 @@
 -- Where the multiplier is 1 the common denominator is a multiple as it is.
 use Rattle.std.proofs.Common.{◌^◌, ◌≤◌, sym, ap, subst, ◌∙◌, arith}
 use Rattle.std.specs.Prelude.{ℤ, pos, ◌<ℤ◌, ◌≤ℤ◌, nat_abs}
-use Rattle.integer_pivots.specs.declared.turn.Turn.{Turn}
+use Rattle.integer_pivots.specs.declared.turned_line.Turn.{Turn}
 use Rattle.integer_pivots.proofs.Sizes.{read, read_known, size_most}
 use Rattle.table_kernel.specs.Turns.{line_of, turn_of_line}
 use Rattle.table_kernel.proofs.CommonSteps.{lcm_read, multiple_of}

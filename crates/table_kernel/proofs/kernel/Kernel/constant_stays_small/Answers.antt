@@ -5,7 +5,7 @@ use Rattle.std.specs.Int.{w128}
 use Rattle.std.specs.Prelude.{pos, ◌<ℤ◌}
 use Rattle.std.proofs.lemmas.Int.{to_z-of_z}
 use Rattle.integer_pivots.specs.declared.line.Line.{Line}
-use Rattle.integer_pivots.specs.declared.turn.Turn.{Turn}
+use Rattle.integer_pivots.specs.declared.turned_line.Turn.{Turn}
 use Rattle.integer_pivots.specs.Turns.{denominator_after, turned_number}
 use Rattle.integer_pivots.proofs.Sizes.{read, read_known, size_most}
 use Rattle.table_kernel.specs.Turns.{line_of}

@@ -38,12 +38,12 @@ distance-lows-requires-clause-few c = let few = c.requires.kernel.shaped.room.fe
 
 pub distance-highs-requires-clause-long : goal.distance-highs-requires-clause-long
 distance-highs-requires-clause-long c =
-    ap length c.as_slice-3.ensures ∙ c.requires.kernel.whole.box.high_count ∙ sym (ap length c.as_slice-4.ensures ∙ c.requires.ranges.high_count)
+    ap length c.as_slice-3.ensures ∙ c.requires.kernel.tableau.box.high_count ∙ sym (ap length c.as_slice-4.ensures ∙ c.requires.ranges.high_count)
 
 pub distance-highs-requires-clause-few : goal.distance-highs-requires-clause-few
 distance-highs-requires-clause-few c =
     let few = c.requires.kernel.shaped.room.few in
-    omega (arith, few, ap length c.as_slice-3.ensures, c.requires.kernel.whole.box.high_count)
+    omega (arith, few, ap length c.as_slice-3.ensures, c.requires.kernel.tableau.box.high_count)
 
 pub overflow_add-lows : goal.overflow_add-lows
 overflow_add-lows c = (far (goal.at.overflow_add-lows c).After-distance-highs).0

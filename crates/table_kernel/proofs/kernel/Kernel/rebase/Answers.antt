@@ -30,7 +30,7 @@ loop-var-init c =
 
 -- both boxes have as many bounds
 alike : (k : Kernel) (costs : CostBox) → IsKernel k → IsBox (width_of k) costs → AreAlike k.table.costs costs
-alike k costs m box = record { high = m.whole.unboxed.high_count; new_low = box.low_count; new_high = box.high_count }
+alike k costs m box = record { high = m.tableau.unboxed.high_count; new_low = box.low_count; new_high = box.high_count }
 
 pub move_low-requires-clause-room : goal.move_low-requires-clause-room
 move_low-requires-clause-room c =

@@ -1,0 +1,15 @@
+use Rattle.std.proofs.Common.{sym, subst}
+use Rattle.area_graph.specs.Area.{Area}
+use Rattle.spf_ties.specs.Distances.{IsRoomFor}
+use Rattle.spread_sets.specs.SetAskers.{IsAskerOfSets, SetAsking}
+use Rattle.spread_sets.proofs.set_asker.SetAsker.prepare.Goals as goal
+
+pub returns-clause-asker : goal.returns-clause-asker
+returns-clause-asker c =
+    let old = subst (λ (a : SetAsking). IsAskerOfSets c.args.survey.now.problem.now c.args.survey.now.sets.now a) (sym c.self.view_is) c.requires.asker in
+    record {
+      room = subst (λ (g : Area). IsRoomFor g c.look.new.room) c.outlook_at-outlook.ensures.graph c.look.ensures.room;
+      trees = old.trees;
+      known = old.known;
+      each = old.each;
+    }
