@@ -45,7 +45,7 @@ fn found_text(alloc: Global, found: &Found, rows: &[Row]) -> Result<String, OutO
             return Ok(format!(in alloc; ": costs{}", Spaced(costs.as_slice()))?);
         }
         Found::Refuted(tree) => ("refuted", tree),
-        Found::Undecided(tree) => ("spent", tree),
+        Found::Undecided(tree) => ("undecided", tree),
     };
     let entries = Entries(tree.as_slice());
     Ok(format!(in alloc; ": {word}{}{entries}", Rows(rows))?)

@@ -32,7 +32,7 @@ fn found_text(alloc: Global, found: &Found, pool: &FormPool) -> Result<String, A
             return format!(in alloc; ": costs{}", Spaced(costs.as_slice()));
         }
         Found::Refuted(tree) => ("refuted", tree),
-        Found::Undecided(tree) => ("spent", tree),
+        Found::Undecided(tree) => ("undecided", tree),
     };
     format!(in alloc;
         ": {word}{}{}",
