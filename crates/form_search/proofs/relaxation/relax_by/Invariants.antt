@@ -1,4 +1,4 @@
--- The tableau stands over the box with the forms of a pool that grew, and each round that goes on adds a candidate.
+-- The tableau stands over the box with the forms of a pool that grew, and each round that goes on adds a possible form.
 use Rattle.std.proofs.Common.{◌≡◌, length}
 use Rattle.form_search.specs.Calls.{Leaves}
 use Rattle.form_search.specs.Tables.{StandsAt}
