@@ -84,7 +84,7 @@ range least greatest = record { least = least; greatest = greatest; coprime_to =
 abbrev pub IsRatio : List ℕ → Type 0
 IsRatio w = (q : Ratio) × IsPrintedRatio q × (w ≡ ratio_word q)
 
--- `low` or `high`
+-- the word of a side: `low` or `high`
 abbrev pub IsSide : List ℕ → Type 0
 IsSide w = (side : Side) × (w ≡ side_word side)
 

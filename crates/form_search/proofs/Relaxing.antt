@@ -6,7 +6,7 @@ use Rattle.std.proofs.lemmas.List.{length-append, take-append-le}
 use Rattle.std.proofs.lemmas.List.Elements.{Contains-append_cases}
 use Rattle.area_graph.specs.declared.Point.{Point}
 use Rattle.design_problem.specs.Forms.{Form}
-use Rattle.design_problem.specs.declared.form.CostBox.{CostBox}
+use Rattle.design_problem.specs.declared.boxes.CostBox.{CostBox}
 use Rattle.fraction_table.specs.Tableaus.{FitsBox}
 use Rattle.form_search.specs.declared.relaxation.Relaxed.{Relaxed}
 use Rattle.form_search.specs.declared.held_tableau.HeldTableau.{HeldTableau}

@@ -2,7 +2,7 @@
 ghost use Rattle.std.specs.Prelude.{◌≡◌, ◌≢◌, ℕ, ◌<◌, List, length, slice_get, Some, All, IfOk, IfSome, OnOk};
 ghost use Rattle.area_graph.specs.declared.Point.{Point};
 ghost use Rattle.area_graph.specs.Costs.{at_costs};
-ghost use Rattle.design_problem.specs.declared.form.CostBox.{CostBox};
+ghost use Rattle.design_problem.specs.declared.boxes.CostBox.{CostBox};
 ghost use Rattle.design_problem.specs.declared.tree.Entry.TheVariants.{Split};
 ghost use Rattle.design_problem.specs.declared.tree.Side.{Side};
 ghost use Rattle.design_problem.specs.Forms.{Form};

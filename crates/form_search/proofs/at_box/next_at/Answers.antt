@@ -1,7 +1,7 @@
 use Rattle.std.proofs.Common.{ℕ, refl, ◌∙◌, subst, List}
 use Rattle.std.specs.Prelude.{IfOk, IfSome, Option}
 use Rattle.std.proofs.lemmas.Result.{IfOk-weaker, err_from_is_err_and, on_ok_weaker}
-use Rattle.design_problem.specs.declared.form.CostBox.{CostBox}
+use Rattle.design_problem.specs.declared.boxes.CostBox.{CostBox}
 use Rattle.design_problem.specs.declared.tree.Entry.{Entry}
 use Rattle.design_problem.specs.declared.tree.Side.{Side}
 use Rattle.design_problem.specs.OpenPlaces.{first_place}
