@@ -14,7 +14,7 @@ use Rattle.design_problem.specs.declared.tree.Member.{Member}
 use Rattle.design_problem.specs.declared.tree.Member.TheVariants.{Low, Row}
 use Rattle.design_problem.specs.Basis.{HasEntries, IsBasis, IsFormOf, IsTable, LeadsPositive, column, entry, forms_of, low_member, member_form}
 use Rattle.fraction_table.specs.ValidTables.{IsTableLine, IsTableauOf, high_member, low_forms, members_of_box}
-use Rattle.fraction_rows.proofs.RowLaws.{number_at as number_there}
+use Rattle.fraction_lines.proofs.TableLineLaws.{number_at as number_there}
 use Rattle.fraction_table.proofs.theory.Resolved.{are_entries, stand_length}
 use Rattle.fraction_table.proofs.theory.Units.{long_at, low_numbers}
 use Rattle.fraction_table.proofs.IntegralTurns.{coefficients_long, stand_at}

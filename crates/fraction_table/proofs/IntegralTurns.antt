@@ -15,12 +15,12 @@ use Rattle.design_problem.specs.declared.tree.Member.{Member}
 use Rattle.design_problem.specs.declared.tree.Member.TheVariants.{Low, High, Row}
 use Rattle.design_problem.specs.Forms.{no_form}
 use Rattle.design_problem.specs.Basis.{IsFormOf, IsMixture, entry, forms_of, member_form}
-use Rattle.fraction_rows.specs.TableLines.{AreTableNumbers, divided_without}
+use Rattle.fraction_lines.specs.TableLines.{AreTableNumbers, divided_without}
 use Rattle.fraction_table.specs.Tableaus.{FitsBox}
-use Rattle.fraction_rows.specs.Turns.{AreTableLines, turned_by, unless_none}
+use Rattle.fraction_lines.specs.Turns.{AreTableLines, turned_by, unless_none}
 use Rattle.fraction_table.specs.ValidTables.{AllLong, IsTableLine, IsTableauOf, Stand, low_forms, members_of_box, number_of_form, numbers_of_form}
 use Rattle.fraction_table.specs.Pivots.{IsLeastColumn}
-use Rattle.fraction_rows.proofs.RowLaws.{number_at as number_there}
+use Rattle.fraction_lines.proofs.TableLineLaws.{number_at as number_there}
 use Rattle.fraction_table.proofs.theory.Resolved.{resolved, stand_length}
 use Rattle.fraction_table.proofs.theory.Blends.{form_mixture}
 use Rattle.fraction_table.proofs.theory.Pivot.{turned}

@@ -27,11 +27,11 @@ use Rattle.design_problem.proofs.AtCosts.{value_at_costs}
 use Rattle.fraction_table.specs.declared.table.Table.{Table}
 use Rattle.fraction_table.specs.declared.stage.SimplexStop.{SimplexStop}
 use Rattle.fraction_table.specs.declared.stage.SimplexStop.TheVariants.{TooWide, OutOfMemory}
-use Rattle.fraction_rows.specs.Entries.{IsPassing}
+use Rattle.fraction_lines.specs.Entries.{IsPassing}
 use Rattle.fraction_table.specs.Multipliers.{AreParts, Different, IsMultiplierStep, IsMultiplier, IsTallyStep, IsWideAtBasis, IsWideMultiplier, columns_numbered, common_of, fractions, fractions_of, numbered, whole_multiplier, whole_multipliers}
 use Rattle.fraction_table.specs.Multipliers.IsMultiplierStep.{multiple, product, tally}
 use Rattle.fraction_table.specs.Multipliers.IsTallyStep.{sum, scale}
-use Rattle.fraction_rows.specs.TableLines.{AreTableNumbers}
+use Rattle.fraction_lines.specs.TableLines.{AreTableNumbers}
 use Rattle.fraction_table.specs.Tableaus.{wide_at}
 use Rattle.fraction_table.specs.ValidTables.{IsTableau, Stand, low_forms, number_of_form}
 use Rattle.fraction_table.specs.Pivots.{line_at, member_at}
@@ -39,7 +39,7 @@ use Rattle.fraction_table.proofs.theory.Blends.{form_mixture}
 use Rattle.fraction_table.proofs.Pivots.{form_line, line_long, member_is, whole_line, wide_step}
 use Rattle.fraction_table.proofs.theory.Points.{equation_at, mixed_at}
 use Rattle.fraction_table.proofs.theory.Resolved.{resolved}
-use Rattle.fraction_rows.proofs.RowLaws.{number_at as number_there, one_within}
+use Rattle.fraction_lines.proofs.TableLineLaws.{number_at as number_there, one_within}
 use Rattle.fraction_table.proofs.Solutions.{member_met, refuting_first}
 use Rattle.fraction_table.proofs.IntegralTurns.{coefficients_long}
 use Rattle.fraction_table.proofs.MultiplierSums.{AllHigh, IsHigh, member_sum, parts_negative}

@@ -5,10 +5,10 @@ use Rattle.whole_numbers.specs.Fractions.{Fraction, StandsFor, whole, minus, tim
 use Rattle.whole_numbers.proofs.Ring.{var, num, ◌⊖◌, ◌⊗◌, ring}
 use Rattle.whole_numbers.proofs.FractionLaws.{times_stands, divided_stands, pivot_entry_stands, stands_more}
 use Rattle.design_problem.specs.Basis.{entry}
-use Rattle.fraction_rows.specs.TableLines.{AreTableNumbers, IsTableNumber, crossed_by, divided_without, nothing as none}
-use Rattle.fraction_rows.proofs.Columns.{other_test}
+use Rattle.fraction_lines.specs.TableLines.{AreTableNumbers, IsTableNumber, crossed_by, divided_without, nothing as none}
+use Rattle.fraction_lines.proofs.Columns.{other_test}
 use Rattle.fraction_table.specs.ValidTables.{Stand}
-use Rattle.fraction_rows.proofs.ZeroFractions.{divided_lowest}
+use Rattle.fraction_lines.proofs.ZeroFractions.{divided_lowest}
 use Rattle.fraction_table.proofs.theory.Pivot.{crossed, turned}
 
 -- The two fractions by which a row is turned: the row's own entry at the pivot's column, which stands for n, and the

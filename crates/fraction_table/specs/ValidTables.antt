@@ -12,7 +12,7 @@ use Rattle.design_problem.specs.Forms.{no_form, value_for_costs}
 use Rattle.design_problem.specs.Boxes.{IsBox}
 use Rattle.design_problem.specs.Basis.{IsBasis, IsFormOf, IsMixture, LeadsPositive, entry, forms_of, low_member, member_form}
 use Rattle.design_problem.specs.Steps.{IsRefutingForm}
-use Rattle.fraction_rows.specs.TableLines.{AreTableNumbers}
+use Rattle.fraction_lines.specs.TableLines.{AreTableNumbers}
 use Rattle.fraction_table.specs.declared.table.Table.{Table}
 use Rattle.fraction_table.specs.declared.stage.Stage.{Stage}
 use Rattle.fraction_table.specs.declared.stage.Stage.TheVariants.{Open, Ended, Stopped}

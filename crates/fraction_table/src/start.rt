@@ -5,8 +5,8 @@ ghost use Rattle.whole_numbers.specs.Fractions.{whole};
 ghost use Rattle.design_problem.specs.declared.tree.Member.TheVariants.{Low};
 ghost use Rattle.design_problem.specs.Basis.{unit};
 ghost use Rattle.design_problem.specs.Boxes.{IsBox};
-ghost use Rattle.fraction_rows.specs.TableLines.{AreTableNumbers};
-ghost use Rattle.fraction_rows.specs.Turns.{AreTableLines};
+ghost use Rattle.fraction_lines.specs.TableLines.{AreTableNumbers};
+ghost use Rattle.fraction_lines.specs.Turns.{AreTableLines};
 ghost use Rattle.fraction_table.specs.declared.stage.Stage.TheVariants.{Open};
 ghost use Rattle.fraction_table.specs.Tableaus.{starting};
 ghost use Rattle.fraction_table.specs.ValidTables.{IsSound, held_of, members_of_box, starting_line};
@@ -14,7 +14,7 @@ ghost use Rattle.fraction_table.specs.ValidTables.{IsSound, held_of, members_of_
 use crate::table::Table;
 use cost_base::{OutOfMemory, push_last};
 use design_problem::{CostBox, Member};
-use fraction_rows::TableLine;
+use fraction_lines::TableLine;
 use std::alloc::Global;
 use wide_fraction::{Frac, Top};
 

@@ -7,7 +7,7 @@ ghost use Rattle.fraction_table.specs.Tableaus.{wide_at};
 ghost use Rattle.fraction_table.specs.ValidTables.{HasRoom, IsTableau, members_of_box};
 
 use design_problem::{CostBox, Form, Member};
-use fraction_rows::{PivotColumn, TableLine, take_quotients, turn_rows};
+use fraction_lines::{PivotColumn, TableLine, take_quotients, turn_lines};
 use wide_fraction::{Top, Wide};
 
 /// A box with the forms of rows, at a basis, and the entries of each form of the box over that basis: those of x - low
@@ -77,7 +77,7 @@ impl Table {
     {
         let member = self.member_at(line);
         let inverse = take_quotients(&self.lines[line], column, &mut self.quotients, self.top)?;
-        turn_rows(
+        turn_lines(
             self.lines.as_mut_slice(),
             &PivotColumn { column, inverse },
             &self.quotients,

@@ -16,7 +16,7 @@ ghost use Rattle.table_kernel.specs.Turns.{KeepsAllButLows, line_of};
 
 use crate::Kernel;
 use crate::kernel::OutOfRange;
-use fraction_rows::TableLine;
+use fraction_lines::TableLine;
 use integer_pivots::{
     CONSTANT_LIMIT, ENTRY_LIMIT, Line, MarkedNumbers, common_multiple, greatest, put_leads,
     share_in, stays_within,

@@ -1,6 +1,6 @@
 -- The row of zeros is as long as its columns and its constant.
 use Rattle.std.proofs.Common.{◌∙◌, ap, length}
-use Rattle.fraction_rows.proofs.BlankLines.{blank_size}
+use Rattle.fraction_lines.proofs.BlankLines.{blank_size}
 use Rattle.fraction_table.proofs.start.bound_row.Goals as goal
 
 pub put_unit_line-requires-clause-width : goal.put_unit_line-requires-clause-width

@@ -4,7 +4,7 @@ use Rattle.std.specs.Prelude.{pos}
 use Rattle.cost_base.specs.Lists.{numbers_from}
 use Rattle.whole_numbers.specs.Fractions.{whole}
 use Rattle.design_problem.specs.Basis.{unit}
-use Rattle.fraction_rows.specs.Turns.{AreTableLines}
+use Rattle.fraction_lines.specs.Turns.{AreTableLines}
 use Rattle.fraction_table.proofs.start.push_low_rows.Given as goal
 
 abbrev pub invariant-loop-var : goal.invariant-loop-var

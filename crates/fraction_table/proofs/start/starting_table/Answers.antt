@@ -1,6 +1,6 @@
 -- The new table is what a tableau keeps.
 use Rattle.std.proofs.Common.{suc, ◌∙◌, ap, length}
-use Rattle.fraction_rows.proofs.BlankLines.{blank_long}
+use Rattle.fraction_lines.proofs.BlankLines.{blank_long}
 use Rattle.fraction_table.proofs.SoundTables.{started}
 use Rattle.fraction_table.proofs.start.starting_table.Goals as goal
 
