@@ -307,7 +307,7 @@ impl ActiveTable {
         self.kernel.table.put_corner(into)
     }
 
-    /// Whole multipliers of rows that refute the box, by a refuting line.
+    /// Whole multipliers of rows that refute the box, by a refuting form.
     ///
     /// # Errors
     ///

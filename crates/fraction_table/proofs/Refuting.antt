@@ -1,4 +1,4 @@
--- The whole multipliers of a refuting line refute the box.
+-- The whole multipliers of a refuting form refute the box.
 use Rattle.std.proofs.Common.{◌≡◌, ℕ, zero, suc, ◌^◌, ◌<◌, ◌≤◌, refl, sym, ◌∙◌, ap, subst, List, [], ◌∷◌, map, take, length, drop, arith}
 use Rattle.std.specs.Prelude.{ℤ, pos, negsuc, ◌+ℤ◌, ◌*ℤ◌, ◌<ℤ◌, ◌≤ℤ◌, Result, Ok, Err, IfErr, IfOk, slice_index_or, sum_by, All}
 use Rattle.std.specs.List.{AllByRecursion}
@@ -100,7 +100,7 @@ rest_long : (es : List Fraction) (n : ℕ) → length es ≡ suc n → length (d
 rest_long [] n counted = absurd (omega arith)
 rest_long (e ∷ es) n counted = omega arith
 
--- A refuting line, by what the table shows of it.
+-- The line of a refuting form, by what the table shows of it.
 pub record IsRefutingLine (t : Table) (line : ℕ) : Type 0 where
   pub tableau : IsTableau t
   pub line_in : line < length t.lines.items
@@ -340,7 +340,7 @@ parts_few t line parts s moved =
     let made = whole_multipliers (parts_at t line) in
     omega (arith, length_permutation made parts moved, length-map (parts_at t line) (whole_multiplier (common_of (parts_at t line))), parts_long t line s)
 
--- what the parts of a refuting line answer, made whole
+-- what the parts of a refuting form answer, made whole
 pub made_refute : (t : Table) (line : ℕ) (parts : List (ℕ × Fraction)) (r : Result (List (ℕ × ℕ)) SimplexStop) →
     IsRefutingLine t line → parts ≡ parts_at t line → IfOk r (IsPermutation (whole_multipliers parts)) →
     IfOk r (λ made. sum_by (λ part. part.1) made < 2 ^ 100) → IfOk r (λ made. Refutes t.rows.items made t.costs)

@@ -199,7 +199,7 @@ impl Table {
         Ok(parts)
     }
 
-    /// Whole multipliers of rows that refute the box, by a refuting line.
+    /// Whole multipliers of rows that refute the box, by a refuting form.
     ///
     /// # Errors
     ///
