@@ -97,7 +97,7 @@ low_line top costs rows basis table w v v_in =
     (zip_at (IsTableLine top w.unboxed.common costs rows w.unboxed.lows) (members_of_box costs (length rows)) table v
     (Low 0 0) [] w.unboxed.lines (omega (arith, members_many costs (length rows), v_in)))
 
--- its fractions stand for the numbers of the row of its variable
+-- its fractions stand for the numbers of the line of its variable
 pub low_line_stands : (top : ℕ) (costs : CostBox) (rows : List Form) (basis : List Member)
     (table : List (List Fraction)) (w : IsTableauOf top costs rows basis table) (v place : ℕ) → v < length costs.low →
     place < suc (length costs.low) → (0 < (entry (slice_index_or table v []) place).denominator)

@@ -53,7 +53,7 @@ by_zero P (pos zero) kept other none some = none refl
 by_zero P (pos (suc n)) kept other none some = some
 by_zero P (negsuc n) kept other none some = some
 
--- a row of fractions after the pivot by the row es on a place
+-- a line of fractions after the pivot by the line es on a place
 abbrev pub turned_line : List Fraction → ℕ → List Fraction → List Fraction
 turned_line es place fs = turned_by fs (divided_without place (entry es place) es 0) place (divided (whole (pos 1)) (entry es place))
 

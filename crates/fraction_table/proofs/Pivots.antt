@@ -171,7 +171,7 @@ entry_number t w line column line_in pivot =
     positive_number (entry es (suc column)).numerator (number_at (numbers_of_line t w line) (suc column))
     (entry es (suc column)).denominator w.unboxed.common here.lowest.positive w.unboxed.positive stands pivot.above
 
--- the lines, turned by the quotients and the inverse that were made of a row
+-- the lines, turned by the quotients and the inverse that were made of a line
 pub news_turned : (es row qs : List Fraction) (place : ℕ) (inverse : Fraction)
     (news rows lines : List (List Fraction)) → news ≡ map (λ fs. turned_by fs qs place inverse) rows → rows ≡ lines →
     qs ≡ divided_without place (entry row place) row 0 → inverse ≡ divided (whole (pos 1)) (entry row place) →

@@ -1,4 +1,4 @@
--- The row of zeros gets its constant and its entry.
+-- The line of zeros gets its constant and its entry.
 use Rattle.std.proofs.Common.{◌≡◌, suc, ◌∙◌, ap, ◌∷◌, length, map, arith}
 use Rattle.cost_base.specs.Lists.{numbers_from}
 use Rattle.whole_numbers.specs.Fractions.{whole}

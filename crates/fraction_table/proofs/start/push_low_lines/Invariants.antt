@@ -5,10 +5,10 @@ use Rattle.cost_base.specs.Lists.{numbers_from}
 use Rattle.whole_numbers.specs.Fractions.{whole}
 use Rattle.design_problem.specs.Basis.{unit}
 use Rattle.fraction_lines.specs.Turns.{AreTableLines}
-use Rattle.fraction_table.proofs.start.push_low_rows.Given as goal
+use Rattle.fraction_table.proofs.start.push_low_lines.Given as goal
 
 abbrev pub invariant-loop-var : goal.invariant-loop-var
 invariant-loop-var l = record {
-  rows : l.rows.items ≡ l.initial.rows.items ++ map (λ v. whole (pos 0) ∷ map whole (unit l.width v (pos 1))) (numbers_from 0 l.var);
-  numbers : AreTableLines l.top (suc l.width) l.rows.items;
+  lines : l.lines.items ≡ l.initial.lines.items ++ map (λ v. whole (pos 0) ∷ map whole (unit l.width v (pos 1))) (numbers_from 0 l.var);
+  numbers : AreTableLines l.top (suc l.width) l.lines.items;
 }
