@@ -10,14 +10,14 @@ use std::io;
 
 /// The texts of a script.
 #[derive(Drop)]
-pub struct Desk {
+pub struct Scene {
     texts: Texts,
 }
 
-impl Desk {
+impl Scene {
     /// No text.
-    pub(crate) fn new(alloc: Global) -> Desk {
-        Desk {
+    pub(crate) fn new(alloc: Global) -> Scene {
+        Scene {
             texts: Texts::new(alloc),
         }
     }
@@ -50,7 +50,7 @@ fn reply(alloc: Global, texts: &mut Texts, line: &str) -> Result<String, AllocEr
     }
 }
 
-impl Script for Desk {
+impl Script for Scene {
     fn answer(&mut self, alloc: Global, line: &str) -> io::Result<String> {
         Ok(reply(alloc, &mut self.texts, line)?)
     }

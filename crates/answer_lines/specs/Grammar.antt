@@ -10,7 +10,7 @@ use Rattle.design_problem.specs.declared.tree.Entry.{Entry}
 use Rattle.design_problem.specs.declared.answer.Verdict.{Verdict}
 use Rattle.design_problem.specs.declared.answer.Floor.{Floor}
 use Rattle.design_problem.specs.AnswerRanges.{IsIndex, IsCost, IsRowNumber, BoundsVerdict, BoundsFloor, BoundsRow, BoundsEntry}
-use Rattle.design_problem.specs.Text.{spaced, row_line, entry_line, FitsEntry, verdict_line, costs_line, interface_line, answer_cost_line, floor_line, rows_line}
+use Rattle.design_problem.specs.Text.{router_line, spaced, row_line, entry_line, FitsEntry, verdict_line, costs_line, interface_line, answer_cost_line, floor_line, rows_line}
 use Rattle.design_problem.specs.Trees.{subtree_count}
 use Rattle.evidence_text.specs.Parts.{no_tree_line, tree_line}
 use Rattle.evidence_text.specs.declared.TreePart.{TreePart}

@@ -27,7 +27,7 @@ entry_words (Halve v bound wide) =
 entry_words (Refute parts) = codes "refute" ∷ multiplier_words parts
 entry_words Undone = codes "open" ∷ []
 
--- words say an entry
+-- words say an entry: its numbers fit, and the words are those of its tree line
 pub record SaysEntry (words : List (List ℕ)) (entry : Entry) : Type 0 where
   pub bounds : BoundsEntry entry
   pub fits : FitsEntry entry

@@ -20,7 +20,7 @@ use Rattle.evidence_text.specs.declared.TreePart.{TreePart}
 use Rattle.answer_lines.specs.Grammar.{AtTree}
 use Rattle.answer_lines.specs.Places.{BeginsLawful}
 use Rattle.answer_lines.specs.Words.{entry_words}
-use Rattle.begun_lines.specs.BegunLines.{GoesOn, Then, Alone, IsCoprimeInRange, IsNumberInRange, IsSide, IsStepWord, IsEitherStep, IsLaterStep, IsRatio, range, vars, values, rows_from, IsRising, OpenWords, SplitWords, BoundWords, TightenWords, LeafWords, ParentWords, PartsWords, RefuteWords, RowWords, EndWords, MemberWords, MembersWords, BasisWords, HalveWords, EntryWords}
+use Rattle.begun_lines.specs.BegunLines.{GoesOn, Then, Alone, IsCoprimeInRange, IsNumberInRange, IsSide, IsStepWord, IsEitherStep, IsLaterStep, IsRatio, range, vars, values, rows_from, IsRising, UndoneWords, SplitWords, BoundWords, TightenWords, LeafWords, ParentWords, PartsWords, RefuteWords, RowWords, EndWords, MemberWords, MembersWords, BasisWords, HalveWords, EntryWords}
 use Rattle.design_problem.specs.Trees.{subtree_count}
 use Rattle.begun_lines.proofs.BegunWords.{alone_is}
 use Rattle.answer_lines.proofs.EntryWords.{entry_line-words}
@@ -235,7 +235,7 @@ entry_kinds ws is = cases is.0 is.1.bounds is.1.fits is.1.is
     cases (Refute ps) bounds fits e =
         let parts : PartsWords 0 (multiplier_words ps) = (ps, fits.0, rising-from 0 ps (λ i d within. omega arith) bounds fits.1, refl) in
         inl (inl (subst RefuteWords (sym e) (refl, parts)))
-    cases Undone bounds fits e = inl (inr (subst OpenWords (sym e) refl))
+    cases Undone bounds fits e = inl (inr (subst UndoneWords (sym e) refl))
 
 tighten_entry : (ws : List (List ℕ)) → TightenWords ws → EntryWords ws
 tighten_entry ws is =

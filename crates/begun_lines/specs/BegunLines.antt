@@ -84,7 +84,7 @@ range least greatest = record { least = least; greatest = greatest; coprime_to =
 abbrev pub IsRatio : List ℕ → Type 0
 IsRatio w = (q : Ratio) × IsPrintedRatio q × (w ≡ ratio_word q)
 
--- `low` or `high`
+-- the word of a side: `low` or `high`
 abbrev pub IsSide : List ℕ → Type 0
 IsSide w = (side : Side) × (w ≡ side_word side)
 
@@ -117,8 +117,8 @@ abbrev pub multiplier_range : Numbers
 multiplier_range = range 1 9999999999999999999999999999999
 
 -- the words of an Undone
-abbrev pub OpenWords : List (List ℕ) → Type 0
-OpenWords ws = Alone (λ w. w ≡ codes "open") ws
+abbrev pub UndoneWords : List (List ℕ) → Type 0
+UndoneWords ws = Alone (λ w. w ≡ codes "open") ws
 
 -- the words of a Split
 abbrev pub SplitWords : List (List ℕ) → Type 0
@@ -171,7 +171,7 @@ HalveWords ws = Then (λ w. w ≡ codes "halve") (Then (IsNumberInRange vars) (T
 
 -- the words of an entry without a subtree
 abbrev pub LeafWords : List (List ℕ) → Type 0
-LeafWords ws = RefuteWords ws ⊎ OpenWords ws
+LeafWords ws = RefuteWords ws ⊎ UndoneWords ws
 
 -- the words of an entry with two subtrees
 abbrev pub PartingWords : List (List ℕ) → Type 0

@@ -183,7 +183,7 @@ walk_backs p w v step is end order state done next tested greatest room = record
       (search_backs p (position_of w) v.order.items step is.search order end);
 }
 
--- Its turns.
+-- Its rounds.
 
 pub round_uses_up : (p : HeldRollout) (nodes : ℕ) (w : Walk) (step : ℕ) → IsUnderWay p nodes w → IsNewStep p w.tested w.state.done.items step →
     nodes ≤ length w.tested → IsWalkEnded p nodes w UsedUp

@@ -265,8 +265,8 @@ impl Walk {
         }
     }
 
-    /// Takes turns until the search ends.
-    fn take_turns(&mut self, alloc: Global, plan: &Plan, nodes: u32) -> Result<End, OutOfMemory>
+    /// Takes rounds until the search ends.
+    fn take_rounds(&mut self, alloc: Global, plan: &Plan, nodes: u32) -> Result<End, OutOfMemory>
         requires { IsUnderWay plan.now nodes self.old }
         ensures { IfOk result (IsWalkEnded plan.now nodes self.new) }
     {
@@ -283,7 +283,7 @@ impl Walk {
         ensures { IfOk result (IsWalkEnded plan.now nodes self.new) }
     {
         match plan.first_left(&self.state.done) {
-            Some(_) => self.take_turns(alloc, plan, nodes),
+            Some(_) => self.take_rounds(alloc, plan, nodes),
             None => Ok(End::Complete),
         }
     }

@@ -71,7 +71,7 @@ pub data Operands : Type 0 where
 abbrev pub option : Bool → Text → Rule
 option must name = record (new_rule name) { long = Some name; required = must }
 
--- the CONFIG word
+-- the CONFIG word, which must be given
 abbrev pub config_word : Rule
 config_word = record (new_rule (codes "CONFIG")) { required = true }
 

@@ -77,7 +77,7 @@ area_twice all heads earlier _ _ = None
 abbrev pub bad_name : List ℕ × ℕ → ℕ → Option ConfigFault
 bad_name name line = if name.1 == line && not (is_router_name name.0) then Some BadName else None
 
--- the fault as one of the line of number n
+-- a fault, where there is one, as one of the line of number n
 abbrev pub at_line : ℕ → Option ConfigFault → Option Fault
 at_line n None = None
 at_line n (Some fault) = Some (record { line = n; fault = fault })

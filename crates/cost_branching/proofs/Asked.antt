@@ -25,7 +25,7 @@ use Rattle.cost_branching.specs.Pools.{ArePoolRows, Differ, IsRowPool}
 use Rattle.cost_branching.specs.Rivals.{BeginWith, IsRivalTooCheap, IsTrueRowForm, KnownRows}
 use Rattle.cost_branching.specs.Asking.{AnswersRequestsBelow, AreAllRequestsAsked, AreRequestsAsked, AreAskedAmong, IsRequestAsked, NoRivalRow, OneRivalRow}
 use Rattle.cost_branching.specs.SourceLaws.{rival_row_met}
-use Rattle.cost_branching.proofs.NewForms.{between_negative, grows_more, new_rival}
+use Rattle.cost_branching.proofs.NewForms.{between_negative, grows_more, new_form}
 
 -- where the forms of rows are at least 0, each of them is
 rows_met : (p : DesignProblem) (rows : List Row) (forms : List Form) (point : Point) → forms ≡ forms_of_rows p rows →
@@ -171,7 +171,7 @@ row_added point requests old old_forms now forms asked row are met count kept he
           are.apart) (inl (omega arith));
       answer = (
         λ leads. clash_ℤ negative (rival_row_met p point row kept.problem count cheap.rival leads),
-        new_rival point old_forms forms (form_of_row p row) met negative,
+        new_form point old_forms forms (form_of_row p row) met negative,
       );
     }
 

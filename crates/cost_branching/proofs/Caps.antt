@@ -3,7 +3,7 @@ use Rattle.std.proofs.Common.{◌≡◌, ℕ, ◌<◌, refl, sym, ◌∙◌, ap,
 use Rattle.std.specs.Prelude.{All, min}
 use Rattle.std.proofs.lemmas.List.{append-nil, get_or-map, length-map, take_at}
 use Rattle.std.proofs.lemmas.List.Elements.{All-map}
-use Rattle.design_problem.specs.declared.form.CostBox.{CostBox}
+use Rattle.design_problem.specs.declared.boxes.CostBox.{CostBox}
 use Rattle.design_problem.specs.declared.form.Row.{Row}
 use Rattle.design_problem.specs.Forms.{Form}
 use Rattle.design_problem.specs.Problems.{DesignProblem, IsProblem, IsProblemOnGraph}

@@ -7,7 +7,7 @@ use Rattle.design_problem.specs.declared.form.Row.{Row}
 use Rattle.design_problem.specs.Problems.{DesignProblem, request_at, IsProblemOnGraph}
 use Rattle.design_problem.specs.Rows.{LeadsEach, form_of_row, forms_of_rows}
 use Rattle.rival_separation.specs.Askers.{RequestLeads}
-use Rattle.form_search.specs.Sources.{Grows, HasNewRival, IsSourceAnswer}
+use Rattle.form_search.specs.Sources.{Grows, HasNewForm, IsSourceAnswer}
 use Rattle.form_search.specs.declared.source.Asked.{Asked}
 use Rattle.form_search.specs.declared.source.Asked.TheVariants.{Nothing, Added}
 use Rattle.cost_branching.specs.Pools.{ArePoolRows, IsRowPool}
@@ -36,7 +36,7 @@ IsRequestAsked point request old old_forms new new_forms false = NoRivalRow poin
 -- nothing was added where the paths of the first requests lead, and something where one doesn't
 abbrev pub AnswersRequestsBelow : DesignProblem → Point → ℕ → List Form → List Form → Asked → Type 0
 AnswersRequestsBelow p point requests old_forms new_forms Nothing = (new_forms ≡ old_forms) × ((k : ℕ) → k < requests → RequestLeads p.graph point (request_at p.requests k))
-AnswersRequestsBelow p point requests old_forms new_forms Added = (LeadsEach p point → ⊥) × HasNewRival point old_forms new_forms
+AnswersRequestsBelow p point requests old_forms new_forms Added = (LeadsEach p point → ⊥) × HasNewForm point old_forms new_forms
 
 -- The first requests were asked: rows and forms are in step, and true forms came. A row is of one of these requests, or
 -- its form is at least 0 at the point.

@@ -104,7 +104,7 @@ rival_forms_hold p form is =
           (rival_row_met p point row is.kept.problem count is.of_row.is_row leads);
     }
 
--- Every true form stands in the list of the candidates.
+-- Every true form stands in the list of the possible forms.
 
 -- a mapped list holds what the function makes of its elements
 pub contains-map : {X Y : Type 0} (f : X → Y) (xs : List X) (x : X) → Contains xs x → Contains (map f xs) (f x)
@@ -156,7 +156,7 @@ path_listed p ends es fits path =
     within-listed (numbers_from 0 (length p.graph.edges)) (length p.graph.vertices) es
     (λ k d k_in. number-listed (length p.graph.edges) (get_or es k d) (known k d k_in)) (omega (arith, short))
 
--- each true form is among the candidates
+-- each true form is among the possible forms
 pub rival_forms_listed : (p : DesignProblem) (form : Form) → IsTrueRowForm p form → Contains (possible_forms_of_problem p) form
 rival_forms_listed p form is =
     let row = is.of_row.row in

@@ -12,7 +12,7 @@ ghost use Rattle.area_graph.specs.declared.Point.{Point};
 use area_graph::Point;
 use cost_base::{Listed, OutOfMemory};
 use design_problem::{Problem, Row, form_of, keeps_problem_on_graph};
-use form_search::{Asked, FormPool, RowSource};
+use form_search::{Asked, FormPool, FormSource};
 use rival_separation::Asker;
 use std::alloc::Global;
 use std::marker::{Brand, Model, PhantomData};
@@ -297,7 +297,7 @@ impl<'a, B: Begun> Rivals<'a, B> {
     }
 }
 
-impl<'a, B: Begun> RowSource for Rivals<'a, B> {
+impl<'a, B: Begun> FormSource for Rivals<'a, B> {
     ghost use Rattle.std.specs.Prelude.{length};
     ghost use Rattle.design_problem.specs.Rows.{LeadsEach};
     ghost use Rattle.cost_branching.specs.Pools.{IsRowPool};

@@ -22,8 +22,8 @@ pub enum Command {
     Problem,
     /// `decide CAP NODES BITS`: one cap decided.
     Decide(u16, CaseLimits),
-    /// `told CAP NODES BITS CHOICES`: the same with an advisor that counts the entries that it is told, which is asked
-    /// afterwards for its pick of so many choices.
+    /// `told CAP NODES BITS CANDIDATES`: the same with an advisor that counts the entries that it is told, which is
+    /// asked afterwards for its pick of so many candidates.
     Told(u16, CaseLimits, u32),
     /// `least NODES BITS`: the text of the answer with the least cap.
     Least(CaseLimits),

@@ -45,7 +45,7 @@ fn found_text(alloc: Global, found: &Found, rows: &[Row]) -> Result<String, OutO
             return Ok(format!(in alloc; ": costs{}", Spaced(costs.as_slice()))?);
         }
         Found::Refuted(tree) => ("refuted", tree),
-        Found::Undecided(tree) => ("spent", tree),
+        Found::Undecided(tree) => ("undecided", tree),
     };
     let entries = Entries(tree.as_slice());
     Ok(format!(in alloc; ": {word}{}{entries}", Rows(rows))?)
@@ -99,55 +99,55 @@ pub(crate) fn decide_text(
     decided_text(alloc, problem, cap, &limits, &mut advisors)
 }
 
-/// So many choices.
-fn choices(alloc: Global, count: u32) -> Result<Vec<Candidate>, AllocError> {
-    let mut choices = Vec::new(alloc);
+/// So many candidates.
+fn candidates(alloc: Global, count: u32) -> Result<Vec<Candidate>, AllocError> {
+    let mut candidates = Vec::new(alloc);
     for var in 0..count {
-        choices.push(Candidate {
+        candidates.push(Candidate {
             var,
             floor: 1,
             low: 1,
             high: 2,
         })?;
     }
-    Ok(choices)
+    Ok(candidates)
 }
 
-/// What deciding a cap with these advisors answers, and what is chosen of these choices then.
+/// What deciding a cap with these advisors answers, and what is chosen of these candidates then.
 fn chosen_text(
     problem: &Problem,
     cap: u16,
     limits: &Limits,
     advisors: &mut Vec<Box<dyn Advisor>>,
-    choices: &[Candidate],
+    candidates: &[Candidate],
 ) -> Result<String, OutOfMemory>
     requires cap { All (λ low. low ≤ cap) problem.now.low }
-    requires some { 0 < length choices.now }
+    requires some { 0 < length candidates.now }
 {
     let alloc = *advisors.allocator();
     let text = decided_text(alloc, problem, cap, limits, advisors)?;
-    let chosen = choose(advisors, choices);
+    let chosen = choose(advisors, candidates);
     let left = advisors.len();
     Ok(format!(in alloc; "{text}\n  chosen {chosen}, advisors left {left}")?)
 }
 
-/// What deciding a cap with an advisor that counts answers, and what is chosen of these choices then.
+/// What deciding a cap with an advisor that counts answers, and what is chosen of these candidates then.
 fn counted_text(
     alloc: Global,
     problem: &Problem,
     cap: u16,
     limits: &Limits,
-    choices: &[Candidate],
+    candidates: &[Candidate],
 ) -> Result<String, OutOfMemory> {
-    if choices.is_empty() || !are_below(problem.low.as_slice(), cap) {
+    if candidates.is_empty() || !are_below(problem.low.as_slice(), cap) {
         return Ok(String::from_str(alloc, ": unfit")?);
     }
     let mut advisors: Vec<Box<dyn Advisor>> = Vec::new(alloc);
     advisors.push(Box::new(alloc, Counting { told: 0 })?)?;
-    chosen_text(problem, cap, limits, &mut advisors, choices)
+    chosen_text(problem, cap, limits, &mut advisors, candidates)
 }
 
-/// What deciding a cap with an advisor that counts answers, and what is chosen of so many choices then.
+/// What deciding a cap with an advisor that counts answers, and what is chosen of so many candidates then.
 pub(crate) fn told_text(
     alloc: Global,
     problem: &Problem,
@@ -158,8 +158,8 @@ pub(crate) fn told_text(
     let Some(limits) = limits_of(case_limits) else {
         return Ok(String::from_str(alloc, ": no budget")?);
     };
-    let choices = choices(alloc, count)?;
-    counted_text(alloc, problem, cap, &limits, choices.as_slice())
+    let candidates = candidates(alloc, count)?;
+    counted_text(alloc, problem, cap, &limits, candidates.as_slice())
 }
 
 /// An answer, where it has room.

@@ -6,7 +6,7 @@ use Rattle.std.proofs.lemmas.List.{length-map}
 use Rattle.cost_base.specs.Lists.{Lacks, NoneTwice}
 use Rattle.area_graph.specs.declared.Point.{Point}
 use Rattle.design_problem.specs.declared.form.Form.{Form}
-use Rattle.design_problem.specs.declared.form.CostBox.{CostBox}
+use Rattle.design_problem.specs.declared.boxes.CostBox.{CostBox}
 use Rattle.design_problem.specs.declared.tree.Side.{Side}
 use Rattle.design_problem.specs.declared.tree.Side.TheVariants.{Low, High}
 use Rattle.design_problem.specs.declared.tree.Entry.{Entry}

@@ -13,7 +13,7 @@ use Rattle.design_problem.specs.declared.tree.Entry.{Entry}
 use Rattle.design_problem.specs.declared.tree.Entry.TheVariants.{Tighten, Split, Halve, Refute, Undone}
 use Rattle.design_problem.specs.declared.marks.Marks.{Marks}
 use Rattle.design_problem.specs.Earnest.{OpenPlace, subplaces}
-use Rattle.design_problem.specs.declared.form.CostBox.{CostBox}
+use Rattle.design_problem.specs.declared.boxes.CostBox.{CostBox}
 use Rattle.design_problem.specs.Boxes.{with_high, with_low}
 use Rattle.design_problem.specs.Trees.{subboxes, tightened}
 use Rattle.design_problem.specs.OpenPlaces.{Growing, first_place, fresh, grown, places_after}

@@ -7,7 +7,7 @@ use Rattle.area_graph.specs.declared.Point.{Point}
 use Rattle.cost_base.specs.declared.StepName.{StepName}
 use Rattle.whole_numbers.specs.Fractions.{Fraction, plus, whole, sum_of}
 use Rattle.design_problem.specs.declared.form.Form.{Form}
-use Rattle.design_problem.specs.declared.form.CostBox.{CostBox}
+use Rattle.design_problem.specs.declared.boxes.CostBox.{CostBox}
 use Rattle.design_problem.specs.declared.tree.Side.{Side}
 use Rattle.design_problem.specs.declared.tree.Member.{Member}
 use Rattle.design_problem.specs.declared.tree.Member.TheVariants.{Low, High, Row}

@@ -14,7 +14,7 @@ use Rattle.design_problem.specs.Problems.{DesignProblem}
 use Rattle.design_problem.specs.Boxes.{capped}
 use Rattle.design_problem.specs.Trees.{IsSoundTree, IsClosed}
 use Rattle.design_problem.specs.Rows.{IsFit, IsRow, box_of, forms_of_rows, greatest_cost}
-use Rattle.design_problem.specs.declared.form.CostBox.{CostBox}
+use Rattle.design_problem.specs.declared.boxes.CostBox.{CostBox}
 
 -- an answer: its verdict, costs, floor, rows, the tree that proves it, and a tree that isn't finished
 pub record AnswerParts : Type 0 where

@@ -31,7 +31,7 @@ times_saved ps v = count_by (λ p. not p.by_rival && (p.var == v)) ps
 abbrev pub balance_of : List Payment → ℕ → ℤ
 balance_of ps v = pos (times_paid ps v) -ℤ pos (times_saved ps v)
 
--- what one payment adds
+-- what one payment adds to a balance: 1 by the rival, -1 by the wanted path
 abbrev pub one_payment : Bool → ℤ
 one_payment true = pos 1
 one_payment false = negsuc 0

@@ -1,7 +1,7 @@
 -- What trees and answers prove of a problem, and how large trees are. Each is the contract of a function of `laws`.
 use Rattle.std.specs.Prelude.{◌≡◌, ℕ, ◌+◌, ◌*◌, ◌^◌, ◌<◌, ◌≤◌, ◌↔◌, List, [], ◌∷◌, ◌++◌, length, All, Contains, sum_by, Option, Some, nat_abs}
 use Rattle.design_problem.specs.declared.form.Form.{Form}
-use Rattle.design_problem.specs.declared.form.CostBox.{CostBox}
+use Rattle.design_problem.specs.declared.boxes.CostBox.{CostBox}
 use Rattle.design_problem.specs.declared.form.Row.{Row}
 use Rattle.design_problem.specs.declared.tree.Entry.{Entry}
 use Rattle.design_problem.specs.declared.tree.Entry.TheVariants.{Tighten, Split, Halve, Refute, Undone}

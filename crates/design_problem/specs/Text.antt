@@ -101,7 +101,7 @@ row_line row = spaced (codes "row" ∷ decimal row.request ∷ map decimal row.r
 abbrev pub rows_lines : List Row → List (List ℕ)
 rows_lines rows = rows_line (length rows) ∷ map row_line rows
 
--- `low` or `high`
+-- the word that a side is written as: `low` or `high`
 abbrev pub side_word : Side → List ℕ
 side_word LowSide = codes "low"
 side_word HighSide = codes "high"

@@ -1,20 +1,10 @@
-//! Boxes of costs, rows, and their forms.
+//! Rows and their forms.
 ghost use Rattle.std.specs.Prelude.{◌≡◌, ◌^◌, ◌<◌, ◌≤◌, ◌++◌, length, All, IfOk, OnOk};
 ghost use Rattle.design_problem.specs.Forms.{term_of, terms_from, terms_of, form_by, AreTerms};
 
 use cost_base::{Listed, OutOfMemory};
 use std::alloc::Global;
 use std::marker::Model;
-
-/// A range for each variable, from `low` to `high`, both ends included.
-///
-/// A box is never empty on a variable. The type doesn't keep that, since a box is cut at one end after the other;
-/// each call that makes or takes a box says it (`IsBox`).
-#[derive(Drop)]
-pub struct CostBox {
-    pub low: Listed<u16>,
-    pub high: Listed<u16>,
-}
 
 /// A request, by its number, and a rival of its path: a simple path of that request other than the wanted one. The
 /// rival is its edges, in their order; they start where the wanted path starts.
@@ -52,22 +42,6 @@ impl Model for Form {
 
     ghost invariant = { λ f.
         f.terms.items ≡ terms_of (form_by f.variables f.constant f.terms.items) };
-}
-
-impl CostBox {
-    /// An equal box.
-    ///
-    /// # Errors
-    ///
-    /// `OutOfMemory`.
-    pub fn copy(&self, alloc: Global) -> Result<CostBox, OutOfMemory>
-        ensures { IfOk result (λ copy. copy ≡ self.now) }
-    {
-        Ok(CostBox {
-            low: self.low.copy(alloc)?,
-            high: self.high.copy(alloc)?,
-        })
-    }
 }
 
 /// Puts the term of a coefficient at the end, unless it is 0.

@@ -9,7 +9,7 @@ use Rattle.std.proofs.lemmas.Option.{same_Some}
 use Rattle.cost_base.proofs.ListLemmas.{drop_read}
 use Rattle.design_problem.specs.declared.answer.CostLine.{CostLine}
 use Rattle.design_problem.specs.declared.problem.VarName.{VarName}
-use Rattle.design_problem.specs.Answers.{Names}
+use Rattle.design_problem.specs.Answers.{CostLinesOf}
 use Rattle.design_problem.specs.Problems.{DesignProblem}
 use Rattle.evidence_checker.specs.Refusals.{IsFirstPlace}
 use Rattle.design_problem.specs.GivenCosts.{GivesCost, written, costs_given}
@@ -213,7 +213,7 @@ names_given w (name ∷ names) (line ∷ lines) named none = (
 
 pub ends_equal : (p : DesignProblem) (xs : List VarName) (lines : List CostLine) (costs : List ℕ) → xs ≡ p.vars →
     All (λ name. name.var < length p.low) p.vars → NamesPlaces p.vars lines → costs ≡ costs_given p lines →
-    IsFirstPlace (HasUnequalEnds xs lines) None → Names p lines costs
+    IsFirstPlace (HasUnequalEnds xs lines) None → CostLinesOf costs p.vars lines
 ends_equal p xs lines costs same known named is none =
     let count = given_count (length p.low) costs p.vars lines is in
     names_given costs p.vars lines named
@@ -221,6 +221,6 @@ ends_equal p xs lines costs same known named is none =
     (off_unequal (length p.low) costs p.vars lines var
     (known_names (length p.low) p.vars p.vars costs refl count known) is off)))
 
-pub names_equal : (p : DesignProblem) (lines : List CostLine) (w : List ℕ) (var : ℕ) → Names p lines w → HasUnequalEnds p.vars lines var → ⊥
+pub names_equal : (p : DesignProblem) (lines : List CostLine) (w : List ℕ) (var : ℕ) → CostLinesOf w p.vars lines → HasUnequalEnds p.vars lines var → ⊥
 names_equal p lines w var names_lines unequal =
     unequal.4 (given_is w p.vars lines var unequal.0 names_lines unequal.2 ∙ sym (given_is w p.vars lines var unequal.1 names_lines unequal.3))

@@ -4,7 +4,7 @@ use Rattle.std.specs.Prelude.{IsTrue, Option, None, Some, MatchOption, ◌⊎◌
 use Rattle.std.proofs.lemmas.Int.{ints}
 use Rattle.cost_base.specs.Order.{FirstOf, NoneOf}
 use Rattle.design_problem.specs.Forms.{Form}
-use Rattle.design_problem.specs.declared.form.CostBox.{CostBox}
+use Rattle.design_problem.specs.declared.boxes.CostBox.{CostBox}
 use Rattle.design_problem.specs.declared.tree.Entry.{Entry}
 use Rattle.design_problem.specs.declared.tree.Entry.TheVariants.{Tighten, Split, Halve, Refute, Undone}
 use Rattle.design_problem.specs.Boxes.{greatest, Refutes}

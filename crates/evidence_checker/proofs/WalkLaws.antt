@@ -8,7 +8,7 @@ use Rattle.evidence_checker.specs.declared.fault.CheckFault.{CheckFault}
 use Rattle.cost_base.specs.Order.{FirstOf}
 use Rattle.cost_base.specs.declared.refusal.Refusal.{Refusal}
 use Rattle.design_problem.specs.Forms.{Form}
-use Rattle.design_problem.specs.declared.form.CostBox.{CostBox}
+use Rattle.design_problem.specs.declared.boxes.CostBox.{CostBox}
 use Rattle.design_problem.specs.declared.tree.Entry.{Entry}
 use Rattle.design_problem.specs.declared.tree.Entry.TheVariants.{Tighten, Split, Halve, Refute, Undone}
 use Rattle.design_problem.specs.Trees.{Sound, SoundAt, IsClosed, AreSeveralTrees, subboxes, subtree_count, is_undone}

@@ -4,7 +4,7 @@ ghost use Rattle.evidence_checker.specs.declared.fault.CheckFault.TheVariants.{F
 ghost use Rattle.evidence_checker.specs.declared.fault.CheckFault.TheVariants.{WrongPlaces};
 ghost use Rattle.evidence_checker.specs.Numbers.{check_fault_number};
 ghost use Rattle.std.specs.Prelude.{◌≡◌, ℕ, ◌≤◌, [], ◌∷◌, length, All, IfOk, IfErr};
-ghost use Rattle.design_problem.specs.Answers.{Names, GivesCosts};
+ghost use Rattle.design_problem.specs.Answers.{CostLinesOf, GivesCosts};
 ghost use Rattle.design_problem.specs.Boxes.{IsInBox};
 ghost use Rattle.design_problem.specs.GivenCosts.{costs_given};
 ghost use Rattle.design_problem.specs.Rows.{box_of, greatest_cost};
@@ -52,7 +52,7 @@ fn check_ends(
 ) -> Result<(), Refusal<CheckFault, u64>>
     requires named { NamesPlaces problem.now.vars lines.now }
     requires given { costs.now ≡ costs_given problem.now lines.now }
-    ensures names { IfOk result (λ _. Names problem.now lines.now costs.now) }
+    ensures names { IfOk result (λ _. CostLinesOf costs.now problem.now.vars lines.now) }
     ensures first { IfErr result
         (StopsBy
         (AtFirst (check_fault_number UnequalEnds) (HasUnequalEnds problem.now.vars lines.now) ∷

@@ -13,6 +13,6 @@ part_word Undecided = codes "open"
 abbrev pub no_tree_line : TreePart → List ℕ
 no_tree_line part = none_line (part_word part)
 
--- the first line of a part with a tree: its word, the cap, and how many lines follow
+-- the first line of a part of an answer that has a tree
 abbrev pub tree_line : TreePart → ℕ → ℕ → List ℕ
 tree_line part cap count = tree_head (part_word part) cap count

@@ -13,7 +13,7 @@ use Rattle.fraction_table.specs.declared.stage.Stage.TheVariants.{Ended, Open, S
 use Rattle.fraction_table.specs.declared.stage.Solved.{Solved}
 use Rattle.fraction_lines.proofs.TableLineLaws.{number_at as number_there}
 use Rattle.design_problem.specs.declared.form.Form.{Form}
-use Rattle.design_problem.specs.declared.form.CostBox.{CostBox}
+use Rattle.design_problem.specs.declared.boxes.CostBox.{CostBox}
 use Rattle.design_problem.specs.declared.tree.Member.{Member}
 use Rattle.fraction_table.specs.declared.table.Table.{Table}
 use Rattle.design_problem.specs.Basis.{entry, member_form}

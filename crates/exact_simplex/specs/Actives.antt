@@ -1,7 +1,7 @@
 -- The table that a tableau works on, what it keeps, and when the kernel of whole numbers works.
 use Rattle.std.specs.Prelude.{◌≡◌, ℕ, ◌^◌, ◌≤◌, List, Bool, true, false}
 use Rattle.design_problem.specs.declared.form.Form.{Form}
-use Rattle.design_problem.specs.declared.form.CostBox.{CostBox}
+use Rattle.design_problem.specs.declared.boxes.CostBox.{CostBox}
 use Rattle.design_problem.specs.declared.tree.Member.{Member}
 use Rattle.design_problem.specs.Basis.{IsBasis}
 use Rattle.fraction_table.specs.declared.stage.Stage.{Stage}

@@ -9,7 +9,7 @@ use lib.IntN.{+ℤ_idr}
 use Rattle.area_graph.specs.declared.Point.{Point}
 use Rattle.area_graph.specs.Costs.{at_costs}
 use Rattle.design_problem.specs.Forms.{Form, AreMet}
-use Rattle.design_problem.specs.declared.form.CostBox.{CostBox}
+use Rattle.design_problem.specs.declared.boxes.CostBox.{CostBox}
 use Rattle.design_problem.specs.Forms.{added, dot, form_at, value_at, weighted}
 use Rattle.design_problem.specs.Boxes.{IsBox, IsInBox, IsPointOf, Refutes, greatest, upper_term, upper_sum}
 use Rattle.design_problem.specs.Trees.{CutsAt}

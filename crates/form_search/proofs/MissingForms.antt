@@ -25,7 +25,7 @@ same_form_decides f g =
 abbrev pub has_form : List Form → Form → Bool
 has_form pool form = is_member same_form pool form
 
--- how many of the candidates stand not in the pool
+-- how many of the possible forms stand not in the pool
 abbrev pub missing : List Form → List Form → ℕ
 missing [] pool = 0
 missing (form ∷ possible_forms) pool = cond (has_form pool form) 0 1 + missing possible_forms pool
@@ -64,7 +64,7 @@ lacks pool form not = by (has_form pool form) (has_decides pool form).0
     by true has = absurd (not (has refl))
     by false has = refl
 
--- with a candidate that the pool lacked fewer are missing
+-- with a possible form that the pool lacked fewer are missing
 pub missing_falls : (possible_forms old new : List Form) (form : Form) (more : List Form) → new ≡ old ++ more →
     Contains possible_forms form → Contains new form → (Contains old form → ⊥) →
     missing possible_forms new < missing possible_forms old

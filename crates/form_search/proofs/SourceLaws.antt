@@ -5,7 +5,7 @@ use Rattle.std.proofs.lemmas.Bool.{false≢true}
 use Rattle.std.proofs.lemmas.List.Elements.{All-append, All-nil}
 use Rattle.area_graph.specs.declared.Point.{Point}
 use Rattle.design_problem.specs.Forms.{Form}
-use Rattle.form_search.specs.declared.source.RowSource.{Ghosts}
+use Rattle.form_search.specs.declared.source.FormSource.{Ghosts}
 use Rattle.form_search.specs.Sources.{Grows, SameFor, SameSource}
 use Rattle.form_search.specs.Calls.{AreInStep, Leaves}
 

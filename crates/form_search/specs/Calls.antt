@@ -1,7 +1,7 @@
 -- A source and the pool of a search, before work with them and after it.
 use Rattle.std.specs.Prelude.{List, All}
 use Rattle.design_problem.specs.Forms.{Form}
-use Rattle.form_search.specs.declared.source.RowSource.{Ghosts}
+use Rattle.form_search.specs.declared.source.FormSource.{Ghosts}
 use Rattle.form_search.specs.Sources.{Grows, SameSource}
 
 -- a source and a pool that go together: the source's own lists are in step with the pool, whose forms are true ones

@@ -5,7 +5,7 @@ use Rattle.std.specs.declared.ops.ControlFlow.TheVariants.{Break, Continue}
 use Rattle.area_graph.specs.declared.Point.{Point}
 use Rattle.area_graph.specs.Costs.{at_costs}
 use Rattle.design_problem.specs.Forms.{Form}
-use Rattle.design_problem.specs.declared.form.CostBox.{CostBox}
+use Rattle.design_problem.specs.declared.boxes.CostBox.{CostBox}
 use Rattle.design_problem.specs.declared.tree.Entry.{Entry}
 use Rattle.design_problem.specs.declared.tree.Entry.TheVariants.{Tighten, Split, Halve, Refute, Undone}
 use Rattle.design_problem.specs.declared.tree.Side.{Side}

@@ -1,7 +1,7 @@
 -- Points of a box, whole and fractional, and the candidates for a cut there.
 use Rattle.std.specs.Prelude.{◌≡◌, ℕ, ◌⊎◌, zero, suc, ◌+◌, ◌*◌, ◌/◌, ◌^◌, ◌<◌, ◌≤◌, ◌%◌, ◌==◌, List, [], ◌∷◌, ◌++◌, slice_index, All, length, if◌then◌else◌}
 use Rattle.area_graph.specs.declared.Point.{Point}
-use Rattle.design_problem.specs.declared.form.CostBox.{CostBox}
+use Rattle.design_problem.specs.declared.boxes.CostBox.{CostBox}
 use Rattle.design_problem.specs.Boxes.{IsBox}
 use Rattle.design_problem.specs.Earnest.{IsLeastPoint}
 use Rattle.form_search.specs.Sources.{scaled}

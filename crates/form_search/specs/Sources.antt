@@ -45,7 +45,7 @@ pub record Grows (IsTrue : Form → Type 0) (old new : List Form) : Type 0 where
   pub more_true : All IsTrue more
 
 -- a form that wasn't in the pool came into it, and is negative at the point
-pub record HasNewRival (point : Point) (old new : List Form) : Type 0 where
+pub record HasNewForm (point : Point) (old new : List Form) : Type 0 where
   pub form : Form
   pub is_new : Contains new form
   pub not_old : Contains old form → ⊥
@@ -54,4 +54,4 @@ pub record HasNewRival (point : Point) (old new : List Form) : Type 0 where
 -- what a source answers: nothing came exactly where it accepts the point; else a form that is negative there
 abbrev pub IsSourceAnswer : (Point → Type 0) → Point → List Form → List Form → Asked → Type 0
 IsSourceAnswer accepted point old new Nothing = accepted point × (new ≡ old)
-IsSourceAnswer accepted point old new Added = (accepted point → ⊥) × HasNewRival point old new
+IsSourceAnswer accepted point old new Added = (accepted point → ⊥) × HasNewForm point old new

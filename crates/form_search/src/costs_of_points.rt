@@ -5,7 +5,7 @@ ghost use Rattle.design_problem.specs.Boxes.{IsInBox, IsPointOf};
 ghost use Rattle.form_search.specs.Sources.{SameFor, SameSource, scaled};
 ghost use Rattle.form_search.specs.Points.{IsCostsBox, IsIntegralPoint};
 
-use crate::RowSource;
+use crate::FormSource;
 use area_graph::Point;
 use cost_base::{Listed, OutOfMemory};
 use design_problem::{CostBox, CostList};
@@ -90,7 +90,7 @@ fn is_within(values: &[u128], high: &[u16]) -> bool
 }
 
 /// Whether the values, not divided by the scale, lie in the box and are accepted as costs. The point stays as it was.
-pub(crate) fn are_values_accepted<S: RowSource>(
+pub(crate) fn are_values_accepted<S: FormSource>(
     source: &mut S,
     costs: &CostBox,
     point: &mut Point,

@@ -1,4 +1,4 @@
-//! What comes next at the open box.
+//! The desk: what is kept from box to box; and what may come next at a box.
 ghost use Rattle.std.specs.Prelude.{◌≡◌, ◌≢◌, ℕ, ◌^◌, ◌<◌, ◌≤◌, length, slice_index, IfOk};
 ghost use Rattle.design_problem.specs.Boxes.{IsBox};
 ghost use Rattle.design_problem.specs.declared.tree.Entry.TheVariants.{Halve};

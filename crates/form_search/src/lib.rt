@@ -20,4 +20,4 @@ mod watch;
 pub use found::Found;
 pub use pool::FormPool;
 pub use searching::search;
-pub use source::{Asked, RowSource};
+pub use source::{Asked, FormSource};

@@ -37,7 +37,7 @@ pub(crate) fn first_negative(forms: &[Form], costs: &CostBox) -> Option<usize>
     forms.iter().position(|form| greatest_over(form, costs) < 0)
 }
 
-/// What a form says of the open box of a tree: it refutes it, or makes a range smaller. A step at a variable and side
+/// What a form says of the open box of a tree: it refutes it, or makes a range smaller. An entry at a variable and side
 /// that were tightened since the last cut is barred.
 fn entry_of(
     alloc: Global,

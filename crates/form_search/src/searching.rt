@@ -14,7 +14,7 @@ ghost use Rattle.form_search.specs.NextEntries.{IsSoundNext, after_round};
 
 use crate::at_box::next_at;
 use crate::desk::{Desk, Next};
-use crate::{FormPool, Found, RowSource};
+use crate::{FormPool, FormSource, Found};
 use cost_base::OutOfMemory;
 use cut_advisors::{Advisor, tell};
 use design_problem::{CostBox, Entry, TreeBuilder};
@@ -92,7 +92,7 @@ fn round(
 /// # Errors
 ///
 /// `OutOfMemory`. Then too only true forms came into the pool, at its end.
-pub fn search<S: RowSource>(
+pub fn search<S: FormSource>(
     source: &mut S,
     costs: &CostBox,
     limits: &Limits,
@@ -100,7 +100,7 @@ pub fn search<S: RowSource>(
     advisors: &mut Vec<Box<dyn Advisor>>,
 ) -> Result<Found, OutOfMemory>
     // The source is in step with the pool, and the box is one of costs from 1 on.
-    requires in_step { AreInStep S.RowSource source.old pool.old }
+    requires in_step { AreInStep S.FormSource source.old pool.old }
     requires ranges { IsBox (S.count source.old) costs.now }
     requires lows { All (λ low. 1 ≤ low) costs.now.low }
 
@@ -109,7 +109,7 @@ pub fn search<S: RowSource>(
         limits.now.nodes pool.new costs.now) }
 
     // Only true forms came to the pool, and unless memory is wanting the source is in step with it.
-    ensures left { Leaves S.RowSource (OnOk result) source.old source.new pool.old pool.new }
+    ensures left { Leaves S.FormSource (OnOk result) source.old source.new pool.old pool.new }
 
     // The advisors are asked before each Split and told each entry, along the tree that grows.
     ensures advisors { AreAdvised ⟦<dyn Advisor as Advisor>⟧ (λ b. b.vtable) (λ b. state b)

@@ -21,7 +21,7 @@ pub enum Asked {
 /// Its meanings are `count`, the number of its variables; `accepted`, the points that it accepts; `true_form`, the
 /// forms that are true of them; `in_step`, the pools with which its own lists are in step; and `possible_forms`, a list
 /// in which each true form stands, so there are finitely many.
-pub trait RowSource {
+pub trait FormSource {
     ghost use Rattle.std.specs.Prelude.{◌≡◌, ℕ, ◌*◌, ◌<◌, List, map, Contains};
     ghost use Rattle.area_graph.specs.declared.Point.{Point};
     ghost use Rattle.area_graph.specs.Costs.{at_costs};

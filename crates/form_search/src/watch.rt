@@ -216,7 +216,7 @@ impl Watch {
         Ok(())
     }
 
-    /// Wakes the forms whose step was barred: nothing bars them at a new box.
+    /// Wakes the forms whose entry was barred: nothing bars them at a new box.
     pub(crate) fn release(&mut self) -> Result<(), OutOfMemory>
         ensures { (n : ℕ) → IsWatch n self.old → IsWatch n self.new }
     {
@@ -251,7 +251,7 @@ impl Watch {
         wake(&mut self.pending, &mut self.waiting, row)
     }
 
-    /// The step of the form that was looked at was barred.
+    /// The entry of the form that was looked at was barred.
     pub(crate) fn bar(&mut self, row: usize) -> Result<(), OutOfMemory>
         ensures watch { (n : ℕ) → IsWatch n self.old → IsWatch n self.new }
         ensures waiting { self.new.waiting ≡ self.old.waiting }

@@ -9,7 +9,7 @@ use Rattle.cost_base.proofs.ListLemmas.{length-map-numbers_from, get_or-map-numb
 use Rattle.whole_numbers.specs.Fractions.{Fraction, StandsFor}
 use Rattle.whole_numbers.specs.Lists.{number_at}
 use Rattle.design_problem.specs.declared.form.Form.{Form}
-use Rattle.design_problem.specs.declared.form.CostBox.{CostBox}
+use Rattle.design_problem.specs.declared.boxes.CostBox.{CostBox}
 use Rattle.design_problem.specs.declared.tree.Member.{Member}
 use Rattle.design_problem.specs.declared.tree.Member.TheVariants.{Low, Row}
 use Rattle.design_problem.specs.Basis.{HasEntries, IsBasis, IsFormOf, IsTable, LeadsPositive, column, entry, forms_of, low_member, member_form}

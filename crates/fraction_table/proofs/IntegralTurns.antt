@@ -10,7 +10,7 @@ use Rattle.whole_numbers.specs.Fractions.{Fraction, StandsFor, divided, whole}
 use Rattle.whole_numbers.specs.Lists.{number_at}
 use Rattle.wide_fraction.proofs.Quotients.{zero_stands}
 use Rattle.design_problem.specs.declared.form.Form.{Form}
-use Rattle.design_problem.specs.declared.form.CostBox.{CostBox}
+use Rattle.design_problem.specs.declared.boxes.CostBox.{CostBox}
 use Rattle.design_problem.specs.declared.tree.Member.{Member}
 use Rattle.design_problem.specs.declared.tree.Member.TheVariants.{Low, High, Row}
 use Rattle.design_problem.specs.Forms.{no_form}

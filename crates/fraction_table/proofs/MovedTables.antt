@@ -10,7 +10,7 @@ use Rattle.whole_numbers.proofs.Ring.{var, num, ◌⊕◌, ◌⊖◌, ◌⊗◌,
 use Rattle.whole_numbers.proofs.FractionLaws.{times_stands}
 use Rattle.whole_numbers.proofs.Multiples.{minus_stands_over, plus_stands_over}
 use Rattle.design_problem.specs.declared.form.Form.{Form}
-use Rattle.design_problem.specs.declared.form.CostBox.{CostBox}
+use Rattle.design_problem.specs.declared.boxes.CostBox.{CostBox}
 use Rattle.design_problem.specs.declared.tree.Member.{Member}
 use Rattle.design_problem.specs.declared.tree.Member.TheVariants.{Low, High, Row}
 use Rattle.design_problem.specs.Boxes.{with_high, with_low}

@@ -17,7 +17,7 @@ use Rattle.whole_numbers.proofs.Sums.{lowest_unique}
 use Rattle.wide_fraction.specs.Widths.{IsWithin}
 use Rattle.wide_fraction.proofs.Quotients.{zero_stands}
 use Rattle.design_problem.specs.declared.form.Form.{Form}
-use Rattle.design_problem.specs.declared.form.CostBox.{CostBox}
+use Rattle.design_problem.specs.declared.boxes.CostBox.{CostBox}
 use Rattle.design_problem.specs.declared.tree.Member.{Member}
 use Rattle.design_problem.specs.declared.tree.Member.TheVariants.{Low, High, Row}
 use Rattle.design_problem.specs.Basis.{IsFormOf, entry}

@@ -13,7 +13,7 @@ use Rattle.design_problem.specs.Basis.{LeadsPositive, entry, member_form}
 use Rattle.design_problem.specs.Earnest.{LexLess}
 use Rattle.design_problem.specs.Steps.{IsPivot}
 use Rattle.fraction_table.specs.declared.table.Table.{Table}
-use Rattle.design_problem.specs.declared.form.CostBox.{CostBox}
+use Rattle.design_problem.specs.declared.boxes.CostBox.{CostBox}
 use Rattle.fraction_lines.specs.TableLines.{IsTableNumber}
 use Rattle.fraction_lines.specs.Turns.{AreTableLines}
 use Rattle.fraction_table.specs.ValidTables.{AllLong, IsTableau}

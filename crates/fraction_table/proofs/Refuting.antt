@@ -14,7 +14,7 @@ use Rattle.whole_numbers.proofs.Ring.{var, num, ◌⊕◌, ◌⊗◌, ring}
 use Rattle.wide_fraction.specs.declared.steps.Wide.{Wide}
 use Rattle.area_graph.specs.Costs.{at_costs}
 use Rattle.design_problem.specs.declared.form.Form.{Form}
-use Rattle.design_problem.specs.declared.form.CostBox.{CostBox}
+use Rattle.design_problem.specs.declared.boxes.CostBox.{CostBox}
 use Rattle.design_problem.specs.declared.tree.Member.{Member}
 use Rattle.design_problem.specs.declared.tree.Member.TheVariants.{Low, High, Row}
 use Rattle.design_problem.specs.Forms.{no_form, value_for_costs, weighted}

@@ -11,7 +11,7 @@ use Rattle.whole_numbers.proofs.Multiples.{plus_stands_over}
 use Rattle.whole_numbers.specs.Lists.{number_at}
 use Rattle.wide_fraction.specs.declared.steps.Wide.{Wide}
 use Rattle.design_problem.specs.declared.form.Form.{Form}
-use Rattle.design_problem.specs.declared.form.CostBox.{CostBox}
+use Rattle.design_problem.specs.declared.boxes.CostBox.{CostBox}
 use Rattle.design_problem.specs.declared.tree.Member.{Member}
 use Rattle.design_problem.specs.Forms.{form_at, no_form, value_for_costs}
 use Rattle.design_problem.specs.Basis.{AreEntries, IsTable, entry, low_member, member_form}

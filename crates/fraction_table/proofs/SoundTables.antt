@@ -2,7 +2,7 @@
 use Rattle.std.proofs.Common.{◌≡◌, ℕ, suc, ◌^◌, ◌<◌, ◌∙◌, ap, subst, List, [], map, length, arith}
 use Rattle.std.specs.Prelude.{All, slice_index}
 use Rattle.cost_base.specs.Lists.{numbers_from}
-use Rattle.design_problem.specs.declared.form.CostBox.{CostBox}
+use Rattle.design_problem.specs.declared.boxes.CostBox.{CostBox}
 use Rattle.design_problem.specs.declared.tree.Member.TheVariants.{Low}
 use Rattle.design_problem.specs.Boxes.{IsBox}
 use Rattle.fraction_table.specs.declared.table.Table.{Table}

@@ -6,7 +6,7 @@ use Rattle.whole_numbers.proofs.Ring.{var, num, ◌⊖◌, ◌⊗◌, ring}
 use Rattle.whole_numbers.proofs.FractionLaws.{times_stands, divided_stands, pivot_entry_stands, stands_more}
 use Rattle.design_problem.specs.Basis.{entry}
 use Rattle.fraction_lines.specs.TableLines.{AreTableNumbers, IsTableNumber, crossed_by, divided_without, nothing as none}
-use Rattle.fraction_lines.proofs.Columns.{other_test}
+use Rattle.std.proofs.lemmas.Bool.{ne_eqb}
 use Rattle.fraction_table.specs.ValidTables.{Stand}
 use Rattle.fraction_lines.proofs.ZeroFractions.{divided_lowest}
 use Rattle.fraction_table.proofs.theory.Pivot.{crossed, turned}
@@ -26,7 +26,7 @@ other_stands : (top place j D a : ℕ) (e q f r : Fraction) (n m k : ℤ) → pl
     IsTableNumber top r → StandsFor f m D → StandsFor r k D →
     StandsFor (minus f (times e (cond (place == j) none (divided r q)))) ((m *ℤ pos a) -ℤ (n *ℤ k)) (D * a)
 other_stands top place j D a e q f r n m k other turn f_is r_is f_stands r_stands =
-    subst (λ (b : Bool). StandsFor (minus f (times e (cond b none (divided r q)))) ((m *ℤ pos a) -ℤ (n *ℤ k)) (D * a)) (sym (other_test place j other))
+    subst (λ (b : Bool). StandsFor (minus f (times e (cond b none (divided r q)))) ((m *ℤ pos a) -ℤ (n *ℤ k)) (D * a)) (sym (ne_eqb place j other))
     (pivot_entry_stands f e r q m n k a D f_is.lowest.positive turn.own_positive
     (divided_lowest r q r_is.lowest.positive).positive r_is.lowest.positive turn.pivot_positive
     turn.number_positive turn.common_positive f_stands turn.own r_stands turn.pivot)

@@ -5,7 +5,7 @@ use Rattle.cost_base.specs.declared.StepName.TheVariants.{Add, Mul, Sub}
 use Rattle.whole_numbers.specs.Fractions.{Fraction, numbers_of_step, minus, plus, times, whole}
 use Rattle.wide_fraction.specs.declared.steps.Wide.{Wide}
 use Rattle.design_problem.specs.declared.form.Form.{Form}
-use Rattle.design_problem.specs.declared.form.CostBox.{CostBox}
+use Rattle.design_problem.specs.declared.boxes.CostBox.{CostBox}
 use Rattle.design_problem.specs.declared.tree.Member.{Member}
 use Rattle.design_problem.specs.declared.tree.Member.TheVariants.{Low, High}
 use Rattle.design_problem.specs.Basis.{entry}

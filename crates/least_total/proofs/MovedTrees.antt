@@ -8,7 +8,7 @@ use Rattle.std.proofs.lemmas.List.{length-map, map-append, get_or-map}
 use Rattle.std.proofs.lemmas.List.Elements.{All-map}
 use Rattle.cost_base.proofs.ListLemmas.{none_mapped}
 use Rattle.area_graph.specs.declared.Point.{Point}
-use Rattle.design_problem.specs.declared.form.CostBox.{CostBox}
+use Rattle.design_problem.specs.declared.boxes.CostBox.{CostBox}
 use Rattle.design_problem.specs.declared.tree.Entry.{Entry}
 use Rattle.design_problem.specs.declared.tree.Entry.TheVariants.{Tighten, Split, Halve, Refute, Undone}
 use Rattle.design_problem.specs.Forms.{Form, form_at, no_form}

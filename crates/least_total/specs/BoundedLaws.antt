@@ -88,9 +88,9 @@ total_forms_hold p most form (inl of_row) =
     }
 total_forms_hold p most form (inr of_total) = total_holds p most form of_total
 
--- Every true form stands in the list of the candidates.
+-- Every true form stands in the list of the possible forms.
 
--- each true form is among the candidates
+-- each true form is among the possible forms
 pub total_forms_listed : (p : DesignProblem) (most : ℕ) (form : Form) → IsTrueWithin p most form → Contains (possible_forms_within p most) form
 total_forms_listed p most form (inl of_row) = Contains-append_right (form_of_total p most ∷ []) (possible_forms_of_problem p) form (rivals.rival_forms_listed p form of_row)
 total_forms_listed p most form (inr of_total) = (0, omega arith, sym of_total.same)

@@ -8,7 +8,7 @@ use Rattle.design_problem.specs.Problems.{DesignProblem, IsProblemOnGraph}
 use Rattle.design_problem.specs.Boxes.{capped}
 use Rattle.design_problem.specs.Rows.{AreBestCosts, IsRow, box_of, greatest_cost}
 use Rattle.design_problem.specs.Trees.{IsClosed}
-use Rattle.design_problem.specs.Answers.{AnswerParts, IsValid, Names}
+use Rattle.design_problem.specs.Answers.{AnswerParts, CostLinesOf, IsValid}
 use Rattle.design_problem.specs.Text.{row_line}
 use Rattle.cost_branching.specs.Pools.{Differ}
 use Rattle.printed_rows.specs.FittingTexts.{FitText}
@@ -26,7 +26,7 @@ pub record IsRecosted (p : DesignProblem) (old new : AnswerParts) (w : List ℕ)
   pub best : AreBestCosts p w
   pub costs : Costs
   pub printed : new.costs ≡ Some costs
-  pub names : Names p costs.lines w
+  pub names : CostLinesOf w p.vars costs.lines
   pub tells : new.verdict ≡ Optimal (greatest_cost w)
   pub verdict : new.verdict ≡ old.verdict
   pub floor : new.floor ≡ old.floor

@@ -1,7 +1,7 @@
 -- What a round finds: a search over the box at a cap, with a bound of the total; and what is known of the least total.
 -- No public clause cites it.
 use Rattle.std.specs.Prelude.{◌≡◌, ℕ, ◌+◌, ◌^◌, ◌<◌, ◌≤◌, List, length, All, AllPairs, Contains, Option, None, Some}
-use Rattle.design_problem.specs.declared.form.CostBox.{CostBox}
+use Rattle.design_problem.specs.declared.boxes.CostBox.{CostBox}
 use Rattle.design_problem.specs.declared.form.Row.{Row}
 use Rattle.design_problem.specs.declared.tree.Entry.TheVariants.{Undone}
 use Rattle.design_problem.specs.Problems.{DesignProblem}

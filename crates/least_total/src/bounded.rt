@@ -11,7 +11,7 @@ use area_graph::Point;
 use cost_base::OutOfMemory;
 use cost_branching::{Begun, Rivals};
 use design_problem::{Problem, Row, keeps_problem_on_graph};
-use form_search::{Asked, FormPool, RowSource};
+use form_search::{Asked, FormPool, FormSource};
 use rival_separation::Asker;
 use std::alloc::Global;
 use std::marker::Model;
@@ -114,7 +114,7 @@ impl<'a, B: Begun> Bounded<'a, B> {
     }
 }
 
-impl<'a, B: Begun> RowSource for Bounded<'a, B> {
+impl<'a, B: Begun> FormSource for Bounded<'a, B> {
     ghost use Rattle.std.specs.Prelude.{length};
     ghost use Rattle.least_total.specs.Totals.{LeadsWithin};
     ghost use Rattle.least_total.specs.Bounded.{IsPoolWithTotal, IsTrueWithin, possible_forms_within};

@@ -14,14 +14,14 @@ use std::str::SplitWhitespace;
 
 /// The graph at hand.
 #[derive(Drop)]
-pub struct Desk {
+pub struct Scene {
     network: Option<Graph>,
 }
 
-impl Desk {
+impl Scene {
     /// No graph.
-    pub(crate) fn new() -> Desk {
-        Desk { network: None }
+    pub(crate) fn new() -> Scene {
+        Scene { network: None }
     }
 }
 
@@ -72,7 +72,7 @@ fn reply(alloc: Global, network: &mut Option<Graph>, line: &str) -> Result<Strin
     text.map_err(|_| AllocError)
 }
 
-impl Script for Desk {
+impl Script for Scene {
     fn answer(&mut self, alloc: Global, line: &str) -> io::Result<String> {
         Ok(reply(alloc, &mut self.network, line)?)
     }

@@ -10,11 +10,11 @@ mod paths;
 mod rivals;
 mod searches;
 
-use crate::answer::Desk;
+use crate::answer::Scene;
 use case_scripts::play_all;
 use std::io;
 
 fn main(rt: HostRuntime) -> io::Result<()> {
-    let mut desk = Desk::new();
-    play_all(&rt, &mut desk)
+    let mut scene = Scene::new();
+    play_all(&rt, &mut scene)
 }

@@ -16,14 +16,14 @@ use std::rt::Files;
 
 /// The runtime whose files lines ask for. Nothing lasts from line to line.
 #[derive(Drop)]
-pub struct Desk<R> {
+pub struct Scene<R> {
     rt: R,
 }
 
-impl<R> Desk<R> {
+impl<R> Scene<R> {
     /// The files of this runtime.
-    pub(crate) fn new(rt: R) -> Desk<R> {
-        Desk { rt }
+    pub(crate) fn new(rt: R) -> Scene<R> {
+        Scene { rt }
     }
 }
 
@@ -77,7 +77,7 @@ fn reply(rt: &(impl Files + AllocGlobal), line: &str) -> Result<String, AllocErr
     }
 }
 
-impl<R: Files + AllocGlobal> Script for Desk<R> {
+impl<R: Files + AllocGlobal> Script for Scene<R> {
     fn answer(&mut self, _alloc: Global, line: &str) -> io::Result<String> {
         Ok(reply(&self.rt, line)?)
     }

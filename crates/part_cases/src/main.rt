@@ -16,11 +16,11 @@ mod shelves;
 mod sinks;
 mod texts;
 
-use crate::answer::Desk;
+use crate::answer::Scene;
 use case_scripts::play_all;
 use std::io;
 
 fn main(rt: HostRuntime) -> io::Result<()> {
-    let mut desk = Desk::new(rt);
-    play_all(&rt, &mut desk)
+    let mut scene = Scene::new(rt);
+    play_all(&rt, &mut scene)
 }

@@ -7,7 +7,7 @@ use Rattle.design_problem.specs.Answers.{greatest_bound}
 use Rattle.design_problem.specs.Text.{costs_lines}
 use Rattle.printed_rows.specs.PrintedCosts.{named_costs}
 
--- the part `costs`
+-- the part `costs` of a text: the cost of each free interface of a problem, by name
 abbrev pub costs_part : DesignProblem → List ℕ → List (List ℕ)
 costs_part p w = costs_lines (Some (named_costs p w))
 

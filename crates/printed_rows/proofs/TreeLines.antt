@@ -12,7 +12,7 @@ use Rattle.text_lines.proofs.Digits.{length-decimal-le}
 use Rattle.text_lines.proofs.WordLists.{room}
 use Rattle.area_graph.specs.declared.Point.{Point}
 use Rattle.design_problem.specs.declared.form.Form.{Form}
-use Rattle.design_problem.specs.declared.form.CostBox.{CostBox}
+use Rattle.design_problem.specs.declared.boxes.CostBox.{CostBox}
 use Rattle.design_problem.specs.declared.tree.Side.{Side}
 use Rattle.design_problem.specs.declared.tree.Side.TheVariants.{Low as LowSide, High as HighSide}
 use Rattle.design_problem.specs.declared.tree.Member.{Member}

@@ -23,7 +23,7 @@ abbrev pub area_line_by : Option ℕ → Statement
 area_line_by None = bad_request_line
 area_line_by (Some a) = Area a
 
--- `area X`
+-- an `area X` line, by the words behind the first
 abbrev pub area_line : List (List ℕ) → Statement
 area_line (word ∷ []) = area_line_by (area word)
 area_line _ = bad_request_line
@@ -71,7 +71,7 @@ free_line (all ∷ lo ∷ hi ∷ []) = if same_bytes all (codes "all") then free
 free_line (router ∷ interface ∷ lo ∷ hi ∷ []) = if is_router_word router then free_one router interface (bounds_said lo hi) else bad_request_line
 free_line _ = bad_request_line
 
--- `fix R IF`
+-- a `fix R IF` line, by the words behind the first
 abbrev pub fix_line : List (List ℕ) → Statement
 fix_line (router ∷ interface ∷ []) = if is_router_word router then Ask (Fix router interface) else bad_request_line
 fix_line _ = bad_request_line
@@ -126,7 +126,7 @@ abbrev pub path_line : List (List ℕ) → Statement
 path_line [] = bad_request_line
 path_line (word ∷ words) = path_said (route_of (word ∷ to_without words)) (excluded_parts (behind_without words))
 
--- what the words behind the first one say
+-- what a line of a request file says, by its first word and those behind it
 abbrev pub request_statement_by : List ℕ → List (List ℕ) → Statement
 request_statement_by word words =
     if same_bytes word (codes "path") then path_line words
@@ -137,7 +137,7 @@ request_statement_by word words =
     else if same_bytes word (codes "default-cost") then default_cost_line words
     else bad_request_line
 
--- what a statement of these words says
+-- what a line of a request file says, by its words
 abbrev pub request_statement_of : List (List ℕ) → Statement
 request_statement_of [] = bad_request_line
 request_statement_of (word ∷ words) = request_statement_by word words

@@ -29,7 +29,7 @@ impl Advisor for Always {
 
     ghost after = { λ state _. state };
 
-    fn pick(&mut self, _choices: &[Candidate]) -> u32 {
+    fn pick(&mut self, _candidates: &[Candidate]) -> u32 {
         self.position
     }
 

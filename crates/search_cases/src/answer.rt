@@ -18,16 +18,16 @@ use std::alloc::{AllocError, Global};
 use std::io;
 use wide_fraction::Top;
 
-/// The scene at hand.
+/// The scene at hand, if a script began one.
 #[derive(Drop)]
-pub struct Desk {
+pub struct SceneAtHand {
     scene: Option<Scene>,
 }
 
-impl Desk {
+impl SceneAtHand {
     /// No scene.
-    pub(crate) fn new() -> Desk {
-        Desk { scene: None }
+    pub(crate) fn new() -> SceneAtHand {
+        SceneAtHand { scene: None }
     }
 }
 
@@ -197,7 +197,7 @@ fn reply(alloc: Global, scene: &mut Option<Scene>, line: &str) -> Result<String,
     answer_to(alloc, scene, &asked)
 }
 
-impl Script for Desk {
+impl Script for SceneAtHand {
     fn answer(&mut self, alloc: Global, line: &str) -> io::Result<String> {
         Ok(reply(alloc, &mut self.scene, line)?)
     }

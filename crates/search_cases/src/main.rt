@@ -10,11 +10,11 @@ mod search;
 mod source;
 mod words;
 
-use crate::answer::Desk;
+use crate::answer::SceneAtHand;
 use case_scripts::play_all;
 use std::io;
 
 fn main(rt: HostRuntime) -> io::Result<()> {
-    let mut desk = Desk::new();
-    play_all(&rt, &mut desk)
+    let mut scene = SceneAtHand::new();
+    play_all(&rt, &mut scene)
 }

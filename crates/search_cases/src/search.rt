@@ -9,7 +9,7 @@ use crate::words::Forms;
 use case_scripts::{Entries, Spaced};
 use cut_advisors::Advisor;
 use design_problem::CostBox;
-use form_search::{FormPool, Found, RowSource, search};
+use form_search::{FormPool, FormSource, Found, search};
 use fraction_table::is_box;
 use std::alloc::{AllocError, Global};
 use wide_fraction::Limits;
@@ -32,7 +32,7 @@ fn found_text(alloc: Global, found: &Found, pool: &FormPool) -> Result<String, A
             return format!(in alloc; ": costs{}", Spaced(costs.as_slice()));
         }
         Found::Refuted(tree) => ("refuted", tree),
-        Found::Undecided(tree) => ("spent", tree),
+        Found::Undecided(tree) => ("undecided", tree),
     };
     format!(in alloc;
         ": {word}{}{}",

@@ -160,11 +160,11 @@ members_marked earlier (m ∷ members) old new known are edges =
     (members_marked (earlier ++ m ∷ []) members (set old m true) new later (marked_rest m members old new here are)
     (marks_more earlier m old edges here))
 
-pub sets_begin : (p : DesignProblem) (sets : List (List ℕ)) (taken : List Bool) → sets ≡ [] → length taken ≡ length p.paths →
+pub sets_begin : (p : DesignProblem) (sets : List (List ℕ)) (taken : List Bool) → sets ≡ [] → length taken ≡ length p.requests →
     ((k : ℕ) → is_marked taken k ≡ false) → KeepsSets p sets taken
-sets_begin p sets taken none counted clear = rw (none, clear_marks taken (length p.paths) counted clear) (record {
-  count = length-replicate (length p.paths) false;
-  marks = no_marks (length p.paths);
+sets_begin p sets taken none counted clear = rw (none, clear_marks taken (length p.requests) counted clear) (record {
+  count = length-replicate (length p.requests) false;
+  marks = no_marks (length p.requests);
   lawful = record { each = All-nil (IsSetOf p); apart = λ i j d before within. absurd (omega (arith, within)) };
 })
 

@@ -14,25 +14,25 @@ use Rattle.area_graph.specs.Area.{Area, edge_at, edges_in, no_edge, FitsGraph, F
 use Rattle.area_graph.specs.Costs.{price_at}
 use Rattle.area_graph.specs.Distances.{far, WalkWithin, through}
 use Rattle.area_graph.proofs.PassSteps.{reached_by_walk, reached_none}
-use Rattle.spf_ties.specs.declared.heap.Entry.{Entry}
+use Rattle.spf_ties.specs.declared.heap.WaitingVertex.{WaitingVertex}
 use Rattle.spf_ties.specs.Searches.{AreSearchNumbers, open_edges, MayWait, LeadsToLast, Underway}
 
 clash : {P : Type 0} → true ≡ false → P
 clash h = cc
 
 -- what waits for a vertex
-abbrev pub entry_of : ℕ → ℕ → Entry
+abbrev pub entry_of : ℕ → ℕ → WaitingVertex
 entry_of x v = record { distance = x; vertex = v }
 
 -- an element is the first, or stands behind it
-contains_cases : (x y : Entry) (xs : List Entry) → Contains (x ∷ xs) y → (x ≡ y) ⊎ Contains xs y
+contains_cases : (x y : WaitingVertex) (xs : List WaitingVertex) → Contains (x ∷ xs) y → (x ≡ y) ⊎ Contains xs y
 contains_cases x y xs has = by_place has.0 has.1 has.2
   where
     by_place : (k : ℕ) → k < length (x ∷ xs) → get_or (x ∷ xs) k y ≡ y → (x ≡ y) ⊎ Contains xs y
     by_place zero within is = inl is
     by_place (suc k) within is = inr (k, omega arith, is)
 
-contains_first : (x : Entry) (xs : List Entry) → Contains (x ∷ xs) x
+contains_first : (x : WaitingVertex) (xs : List WaitingVertex) → Contains (x ∷ xs) x
 contains_first x xs = (zero, omega arith, refl)
 
 -- an edge into a vertex is among those into it
@@ -53,7 +53,7 @@ none_settled (suc n) (suc v) = none_settled n v
 
 -- an entry of a settled vertex is passed over
 pub passed_over : (g : Area) (p : Point) (excluded : List ℕ) (t limit least : ℕ) (d : List ℕ) (settled : List Bool)
-    (entry : Entry) (waiting rest : List Entry) → Underway g p excluded t limit least [] d settled waiting →
+    (entry : WaitingVertex) (waiting rest : List WaitingVertex) → Underway g p excluded t limit least [] d settled waiting →
     IsPermutation waiting (entry ∷ rest) → is_marked settled entry.vertex ≡ true →
     Underway g p excluded t limit least [] d settled rest
 passed_over g p excluded t limit least d settled entry waiting rest under moved done = record {
@@ -64,7 +64,7 @@ passed_over g p excluded t limit least d settled entry waiting rest under moved 
       elim (contains_cases entry (entry_of (get_or d v 0) v) rest
       (Contains-permutation waiting (entry ∷ rest) (entry_of (get_or d v 0) v) moved
       (under.waits v known unsettled near))) [
-        | inl same ↦ clash (sym done ∙ ap (λ (e : Entry). is_marked settled e.vertex) same ∙ unsettled)
+        | inl same ↦ clash (sym done ∙ ap (λ (e : WaitingVertex). is_marked settled e.vertex) same ∙ unsettled)
         | inr later ↦ later
       ];
   entries = All-tail (MayWait limit least d) entry rest (All-permutation (MayWait limit least d) waiting (entry ∷ rest) moved under.entries);
@@ -74,7 +74,7 @@ passed_over g p excluded t limit least d settled entry waiting rest under moved 
 
 -- the nearest vertex that waits is settled, and the edges into it are yet to be looked at
 pub settled_next : (g : Area) (p : Point) (excluded : List ℕ) (t limit least : ℕ) (d : List ℕ) (settled : List Bool)
-    (entry : Entry) (waiting rest : List Entry) → AreSearchNumbers g p d settled →
+    (entry : WaitingVertex) (waiting rest : List WaitingVertex) → AreSearchNumbers g p d settled →
     Underway g p excluded t limit least [] d settled waiting → IsPermutation waiting (entry ∷ rest) →
     All (λ other. entry.distance ≤ other.distance) waiting → is_marked settled entry.vertex ≡ false →
     Underway g p excluded t limit entry.distance (edges_in g entry.vertex) d (set settled entry.vertex true) rest
@@ -100,8 +100,8 @@ settled_next g p excluded t limit least d settled entry waiting rest front under
     may_wait = All-tail (MayWait limit least d) entry rest (All-permutation (MayWait limit least d) waiting (entry ∷ rest) moved under.entries)
 
     nearer : All (λ other. entry.distance ≤ other.distance) rest
-    nearer = All-tail (λ (other : Entry). entry.distance ≤ other.distance) entry rest
-        (All-permutation (λ (other : Entry). entry.distance ≤ other.distance) waiting (entry ∷ rest) moved nearest)
+    nearer = All-tail (λ (other : WaitingVertex). entry.distance ≤ other.distance) entry rest
+        (All-permutation (λ (other : WaitingVertex). entry.distance ≤ other.distance) waiting (entry ∷ rest) moved nearest)
 
     within : entry.vertex < length settled
     within = let known = first.known in let count = front.count in let marks = front.marks in omega arith
@@ -117,7 +117,7 @@ settled_next g p excluded t limit least d settled entry waiting rest front under
 
     at_least : entry.distance ≤ get_or d entry.vertex 0
     at_least = elim (cases_lt (get_or d entry.vertex 0) limit) [
-      | inl near ↦ All-contains (λ (other : Entry). entry.distance ≤ other.distance) waiting (entry_of (get_or d entry.vertex 0) entry.vertex) nearest
+      | inl near ↦ All-contains (λ (other : WaitingVertex). entry.distance ≤ other.distance) waiting (entry_of (get_or d entry.vertex 0) entry.vertex) nearest
           (under.waits entry.vertex first.known unsettled near)
       | inr more ↦ omega (arith, first.near, more)
     ]
@@ -134,7 +134,7 @@ settled_next g p excluded t limit least d settled entry waiting rest front under
       | no other ↦ elim (contains_cases entry (entry_of (get_or d v 0) v) rest
           (Contains-permutation waiting (entry ∷ rest) (entry_of (get_or d v 0) v) moved
           (under.waits v known (sym (there v other) ∙ still) near))) [
-            | inl same ↦ absurd (other (sym (ap (λ (e : Entry). e.vertex) same)))
+            | inl same ↦ absurd (other (sym (ap (λ (e : WaitingVertex). e.vertex) same)))
             | inr later ↦ later
           ]
     ]
@@ -155,7 +155,7 @@ settled_next g p excluded t limit least d settled entry waiting rest front under
 
 -- an edge that is excluded, or leads to no smaller number
 pub kept : (g : Area) (p : Point) (excluded : List ℕ) (t limit least e : ℕ) (todo : List ℕ) (d : List ℕ)
-    (settled : List Bool) (waiting : List Entry) → Underway g p excluded t limit least (e ∷ todo) d settled waiting →
+    (settled : List Bool) (waiting : List WaitingVertex) → Underway g p excluded t limit least (e ∷ todo) d settled waiting →
     (Lacks excluded e → get_or d (edge_at g e).from 0 ≤ through p (edge_at g e) d) →
     Underway g p excluded t limit least todo d settled waiting
 kept g p excluded t limit least e todo d settled waiting under short = record {
@@ -173,7 +173,7 @@ kept g p excluded t limit least e todo d settled waiting under short = record {
 
 -- an edge that leads to a smaller number: it is lowered, and its vertex waits under it
 pub lowered : (g : Area) (p : Point) (excluded : List ℕ) (t limit least e : ℕ) (todo : List ℕ) (d : List ℕ)
-    (settled : List Bool) (waiting new : List Entry) → FitsGraph g → AreSearchNumbers g p d settled →
+    (settled : List Bool) (waiting new : List WaitingVertex) → FitsGraph g → AreSearchNumbers g p d settled →
     Underway g p excluded t limit least (e ∷ todo) d settled waiting → Lacks excluded e →
     through p (edge_at g e) d < get_or d (edge_at g e).from 0 →
     IsPermutation (entry_of (through p (edge_at g e) d) (edge_at g e).from ∷ waiting) new →
@@ -310,7 +310,7 @@ bounded_begun : (t limit n : ℕ) → All (λ x. x ≤ limit) (set (replicate n 
 bounded_begun t limit n = All-set (λ x. x ≤ limit) (replicate n limit) t 0 (omega arith) (All-replicate (λ x. x ≤ limit) n limit (omega arith))
 
 -- the target alone waits at the start
-pub begun : (g : Area) (p : Point) (excluded : List ℕ) (t limit n m : ℕ) (waiting : List Entry) → t < n →
+pub begun : (g : Area) (p : Point) (excluded : List ℕ) (t limit n m : ℕ) (waiting : List WaitingVertex) → t < n →
     IsPermutation (entry_of 0 t ∷ []) waiting →
     Underway g p excluded t limit 0 [] (set (replicate n limit) t 0) (replicate m false) waiting
 begun g p excluded t limit n m waiting within moved = record {

@@ -7,7 +7,7 @@ use Rattle.area_graph.specs.declared.Point.{Point}
 use Rattle.area_graph.specs.Area.{Area, edge_at}
 use Rattle.area_graph.specs.declared.subgraph.Subgraph.{Subgraph}
 use Rattle.area_graph.specs.Distances.{far, AreReached, FitsSubgraph, through}
-use Rattle.spf_ties.specs.declared.heap.Entry.{Entry}
+use Rattle.spf_ties.specs.declared.heap.WaitingVertex.{WaitingVertex}
 use Rattle.spf_ties.specs.declared.search.Front.{Front}
 use Rattle.spf_ties.specs.declared.search.Width.{Width}
 use Rattle.spf_ties.specs.declared.search.Width.TheVariants.{Narrow, Wide}
@@ -24,7 +24,7 @@ abbrev pub open_edges : Area → List Bool → ℕ
 open_edges g settled = count_by (λ e. not (is_marked settled (edge_at g e).to)) (numbers_from 0 (length g.edges))
 
 -- an entry tells of a vertex, at no more than the limit and no less than its number and than what was settled last
-pub record MayWait (limit least : ℕ) (d : List ℕ) (entry : Entry) : Type 0 where
+pub record MayWait (limit least : ℕ) (d : List ℕ) (entry : WaitingVertex) : Type 0 where
   pub known : entry.vertex < length d
   pub near : entry.distance ≤ limit
   pub later : least ≤ entry.distance
@@ -39,7 +39,7 @@ pub record LeadsToLast (g : Area) (least : ℕ) (d : List ℕ) (settled : List B
 -- where a search for least costs below a limit stands that settled a vertex at `least` last, and has yet to look at the
 -- edges `todo` into it
 pub record Underway (g : Area) (p : Point) (excluded : List ℕ) (t limit least : ℕ) (todo : List ℕ) (d : List ℕ)
-    (settled : List Bool) (waiting : List Entry) : Type 0 where
+    (settled : List Bool) (waiting : List WaitingVertex) : Type 0 where
   pub reached : AreReached g p excluded t limit d
   pub bounded : All (λ x. x ≤ limit) d
   pub before : (v : ℕ) → is_marked settled v ≡ true → slice_index d v ≤ least
@@ -51,7 +51,7 @@ pub record Underway (g : Area) (p : Point) (excluded : List ℕ) (t limit least 
       slice_index d (edge_at g e).from ≤ through p (edge_at g e) d
 
 -- where a search for least costs in a subgraph below a limit stands that settled a vertex at `least` last
-abbrev pub UnderwayIn : Subgraph → ℕ → ℕ → ℕ → List ℕ → List ℕ → List Bool → List Entry → Type 0
+abbrev pub UnderwayIn : Subgraph → ℕ → ℕ → ℕ → List ℕ → List ℕ → List Bool → List WaitingVertex → Type 0
 UnderwayIn s t limit least todo d settled waiting =
     Underway s.graph.now s.point.now s.exclusion.now t limit least todo d settled waiting
 

@@ -12,7 +12,7 @@ use Rattle.form_search.specs.Sources.{IsSourceAnswer, SameSource}
 use Rattle.form_search.specs.declared.source.Asked.{Asked}
 use Rattle.form_search.specs.declared.source.Asked.TheVariants.{Nothing, Added}
 use Rattle.form_search.proofs.SourceLaws.{grows_none}
-use Rattle.cost_branching.proofs.NewForms.{between_negative, grows_more, new_rival}
+use Rattle.cost_branching.proofs.NewForms.{between_negative, grows_more, new_form}
 use Rattle.spread_sets.specs.declared.spread.SetRow.{SetRow}
 use Rattle.spread_sets.specs.declared.spread.SetRow.TheVariants.{Outsider}
 use Rattle.spread_sets.specs.Spreads.{IsSetRow, SetRowsDiffer, Shares, SharesEach, edges_of, name_of_set, form_of_set_row}
@@ -121,7 +121,7 @@ row_added point count p sets old_rows old_forms rows forms asked outsider are me
           (inl (count, omega arith, refl));
       answer = (
         λ each. too_cheap_not p point set outsider cheap (All-contains (Shares p point) sets set each has),
-        new_rival point old_forms forms (form_of_set_row p row) met negative,
+        new_form point old_forms forms (form_of_set_row p row) met negative,
       );
     }
 

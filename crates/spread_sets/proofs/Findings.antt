@@ -3,7 +3,7 @@ use Rattle.std.proofs.Common.{◌≡◌, ℕ, ◌≤◌, refl, sym, ◌∙◌, a
 use Rattle.std.specs.Prelude.{All, AllPairs, IfOk, OnOk}
 use Rattle.cost_base.specs.declared.OutOfMemory.{OutOfMemory}
 use Rattle.std.proofs.lemmas.List.Elements.{All-map}
-use Rattle.design_problem.specs.declared.form.CostBox.{CostBox}
+use Rattle.design_problem.specs.declared.boxes.CostBox.{CostBox}
 use Rattle.design_problem.specs.Forms.{Form}
 use Rattle.design_problem.specs.Problems.{DesignProblem, IsProblem, IsProblemOnGraph}
 use Rattle.design_problem.specs.Rows.{box_of}

@@ -3,7 +3,7 @@
 use Rattle.std.specs.Prelude.{◌≡◌, ◌⊎◌, ℕ, ◌<◌, pos, ◌≤ℤ◌, List, [], ◌∷◌, ◌++◌, All, Bool, true, false, Contains, length}
 use Rattle.area_graph.specs.declared.Point.{Point}
 use Rattle.design_problem.specs.Forms.{Form, value_at}
-use Rattle.form_search.specs.Sources.{Grows, HasNewRival, IsSourceAnswer}
+use Rattle.form_search.specs.Sources.{Grows, HasNewForm, IsSourceAnswer}
 use Rattle.form_search.specs.declared.source.Asked.{Asked}
 use Rattle.form_search.specs.declared.source.Asked.TheVariants.{Nothing, Added}
 use Rattle.design_problem.specs.Problems.{IsProblemOnGraph}
@@ -43,7 +43,7 @@ IsSetAsked point place old old_forms new new_forms false = NoSetRow point place 
 -- nothing was added where the first sets share, and something where one doesn't
 abbrev pub AnswersSetsBelow : KnownSets → Point → ℕ → List Form → List Form → Asked → Type 0
 AnswersSetsBelow old point count old_forms new_forms Nothing = (new_forms ≡ old_forms) × ((k : ℕ) → k < count → Shares old.problem point (set_at old.sets k))
-AnswersSetsBelow old point count old_forms new_forms Added = (SharesEach old.problem old.sets point → ⊥) × HasNewRival point old_forms new_forms
+AnswersSetsBelow old point count old_forms new_forms Added = (SharesEach old.problem old.sets point → ⊥) × HasNewForm point old_forms new_forms
 
 -- a row that came while sets were asked: it is of one of the first sets, or its form is at least 0 at the point
 abbrev pub IsPassed : KnownSets → Point → ℕ → SetRow → Type 0

@@ -179,7 +179,7 @@ set_row_met p sets (Outsider name outsider) point kept count is each =
     (outsider_met p sets is.0 outsider point kept count is.1.listed is.2 each)
 set_row_met p sets (Same name i j) point kept count is each = tie_met p sets is.0 i j point kept count is.1.listed is.2 is.3 each
 
--- Every true form stands in the list of the candidates.
+-- Every true form stands in the list of the possible forms.
 
 -- the form of a wanted path and a short list of edges is among those of all such pairs
 pair_listed : (p : DesignProblem) (form : List ℕ → List ℕ → Form) (requests : List Request) (k : ℕ) (es : List ℕ) →
@@ -193,7 +193,7 @@ pair_listed p form (r ∷ rs) (suc k) es known has =
     Contains-append_right (map (form r.path.edges) (edge_lists p)) (forms_of_pairs p form rs)
     (form (request_at rs k).path.edges es) (pair_listed p form rs k es (omega arith) has)
 
--- the form of each row of the sets is among the candidates
+-- the form of each row of the sets is among the possible forms
 row_listed : (p : DesignProblem) (sets : List (List ℕ)) (row : SetRow) → IsProblemOnGraph p → AreMemberSets p sets →
     IsSetRow p sets row → Contains (possible_forms_of p) (form_of_set_row p row)
 row_listed p sets (Outsider name outsider) kept are is =
@@ -214,7 +214,7 @@ row_listed p sets (Same name i j) kept are is =
     (pair_listed p tie p.requests i (edges_of p j) (member_known p set i is_set is.2)
     (path_listed p (ends_in p set) (edges_of p j) kept.graph (member_path p set j kept.problem is_set is.3)))
 
--- each true form is among the candidates
+-- each true form is among the possible forms
 pub set_forms_listed : (p : DesignProblem) (sets : List (List ℕ)) (form : Form) → IsTrueOfSets p sets form → Contains (possible_forms_of p) form
 set_forms_listed p sets form is =
     subst (λ (f : Form). Contains (possible_forms_of p) f) is.of_row.same

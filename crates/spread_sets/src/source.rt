@@ -19,7 +19,7 @@ use area_graph::Point;
 use cost_base::{Listed, OutOfMemory};
 use cost_branching::{row_of, variable_count};
 use design_problem::{Form, Problem, form_of, keeps_problem_on_graph};
-use form_search::{Asked, FormPool, RowSource};
+use form_search::{Asked, FormPool, FormSource};
 use std::alloc::Global;
 use std::marker::{Brand, Model, PhantomData};
 
@@ -383,7 +383,7 @@ impl<'a, B: Begun> Spreads<'a, B> {
     }
 }
 
-impl<'a, B: Begun> RowSource for Spreads<'a, B> {
+impl<'a, B: Begun> FormSource for Spreads<'a, B> {
     ghost use Rattle.std.specs.Prelude.{length};
     ghost use Rattle.spread_sets.specs.Spreads.{SharesEach};
     ghost use Rattle.spread_sets.specs.Sources.{IsPoolOfSets, IsTrueOfSets, possible_forms_of};

@@ -13,7 +13,7 @@ use Rattle.whole_numbers.proofs.Ring.{var, ◌⊗◌, ring, ring_by, using, noth
 use Rattle.whole_numbers.proofs.Sizes.{size_positive}
 use Rattle.whole_numbers.proofs.Sums.{lowest_unique}
 use Rattle.design_problem.specs.declared.form.Form.{Form}
-use Rattle.design_problem.specs.declared.form.CostBox.{CostBox}
+use Rattle.design_problem.specs.declared.boxes.CostBox.{CostBox}
 use Rattle.design_problem.specs.Basis.{member_form}
 use Rattle.fraction_table.specs.declared.table.Table.{Table}
 use Rattle.fraction_table.specs.ValidTables.{members_of_box, number_of_form}

@@ -4,7 +4,7 @@ use Rattle.std.specs.Prelude.{pos}
 use Rattle.std.proofs.lemmas.List.{get_or_default}
 use Rattle.whole_numbers.specs.Fractions.{Fraction}
 use Rattle.design_problem.specs.declared.form.Form.{Form}
-use Rattle.design_problem.specs.declared.form.CostBox.{CostBox}
+use Rattle.design_problem.specs.declared.boxes.CostBox.{CostBox}
 use Rattle.fraction_table.specs.declared.stage.Stage.TheVariants.{Open}
 use Rattle.fraction_table.specs.RowLines.{HoldsSame}
 use Rattle.fraction_table.specs.Tableaus.{Held, starting}

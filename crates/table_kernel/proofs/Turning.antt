@@ -14,7 +14,7 @@ use Rattle.whole_numbers.proofs.Divisors.{gcd_is}
 use Rattle.whole_numbers.proofs.FractionLaws.{cancel, over-mul}
 use Rattle.whole_numbers.proofs.Ring.{var, num, neg, ◌⊕◌, ◌⊖◌, ◌⊗◌, ring, ring_by, using, nothing}
 use Rattle.design_problem.specs.declared.form.Form.{Form}
-use Rattle.design_problem.specs.declared.form.CostBox.{CostBox}
+use Rattle.design_problem.specs.declared.boxes.CostBox.{CostBox}
 use Rattle.design_problem.specs.declared.tree.Member.{Member}
 use Rattle.design_problem.specs.Basis.{IsFormOf, IsMixture, LeadsPositive, forms_of, member_form}
 use Rattle.design_problem.specs.Forms.{no_form}

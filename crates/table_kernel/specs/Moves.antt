@@ -1,7 +1,7 @@
 -- What a bound that moves makes of a kernel, and how far bounds may move.
 use Rattle.std.specs.Prelude.{◌≡◌, ℕ, ◌+◌, ◌*◌, ◌^◌, ◌<◌, ◌≤◌, List, [], ◌∷◌, ℤ, pos, ◌+ℤ◌, ◌-ℤ◌, ◌*ℤ◌, nat_abs, Option, None, Some, map, length, slice_index_or, slice_set}
 use Rattle.whole_numbers.specs.Lists.{number_at}
-use Rattle.design_problem.specs.declared.form.CostBox.{CostBox}
+use Rattle.design_problem.specs.declared.boxes.CostBox.{CostBox}
 use Rattle.design_problem.specs.declared.tree.Member.{Member}
 use Rattle.fraction_table.specs.Moves.{IsColumnOf, put_at}
 use Rattle.integer_pivots.specs.declared.line.Line.{Line}

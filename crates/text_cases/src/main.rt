@@ -12,11 +12,11 @@ mod networks;
 mod problems;
 mod requests;
 
-use crate::answer::Desk;
+use crate::answer::Scene;
 use case_scripts::play_all;
 use std::io;
 
 fn main(rt: HostRuntime) -> io::Result<()> {
-    let mut desk = Desk::new(rt.alloc());
-    play_all(&rt, &mut desk)
+    let mut scene = Scene::new(rt.alloc());
+    play_all(&rt, &mut scene)
 }

@@ -43,7 +43,7 @@ behind_header (header ∷ statements) = statements
 abbrev pub statements : List (List ℕ) → List SaidLine
 statements file = behind_header (said_lines file)
 
--- `ospfcost KIND 1`
+-- the words of a line are the header of a text of this kind: `ospfcost KIND 1`
 abbrev pub is_header : List ℕ → List (List ℕ) → Bool
 is_header kind (name ∷ word ∷ version ∷ []) = same_bytes name (codes "ospfcost") && (same_bytes word kind && same_bytes version (codes "1"))
 is_header kind _ = false

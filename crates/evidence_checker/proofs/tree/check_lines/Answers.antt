@@ -4,7 +4,7 @@ use Rattle.std.proofs.lemmas.List.Elements.{All-cons, All-nil}
 use Rattle.cost_base.specs.Order.{FirstOf}
 use Rattle.cost_base.proofs.ListLemmas.{drop_read}
 use Rattle.design_problem.specs.Forms.{IsSmallForm}
-use Rattle.design_problem.specs.declared.form.CostBox.{CostBox}
+use Rattle.design_problem.specs.declared.boxes.CostBox.{CostBox}
 use Rattle.design_problem.specs.declared.tree.Entry.{Entry}
 use Rattle.design_problem.specs.Trees.{SoundAt, is_undone}
 use Rattle.evidence_checker.specs.Numbers.{check_fault_number}

@@ -1,7 +1,7 @@
 use Rattle.std.proofs.Common.{◌≡◌, ℕ, refl, sym, ap, subst, Ok, None}
 use Rattle.std.proofs.lemmas.Result.{err_from_is_err_and}
 use Rattle.area_graph.specs.declared.Point.{Point}
-use Rattle.design_problem.specs.declared.form.CostBox.{CostBox}
+use Rattle.design_problem.specs.declared.boxes.CostBox.{CostBox}
 use Rattle.design_problem.specs.Earnest.{IsLeastPoint}
 use Rattle.form_search.specs.AdvisorsAsked.{IsAt}
 use Rattle.design_problem.specs.Boxes.{IsPointOf}
@@ -19,13 +19,13 @@ returns-in_err-found-clause-asked g c =
 pub returns-in_ok-split_there-in-None-clause-next : goal.returns-in_ok-split_there-in-None-clause-next
 returns-in_ok-split_there-in-None-clause-next g c = λ top old new since.
     let entry = c.in_ok-split_there-in-None.field-0 in
-    next_split_at (g.S.RowSource.accepted c.args.source.now) top (g.S.RowSource.count c.args.source.now) new (record { box = c.args.costs.now; since = since })
+    next_split_at (g.S.FormSource.accepted c.args.source.now) top (g.S.FormSource.count c.args.source.now) new (record { box = c.args.costs.now; since = since })
     c.args.desk.now.point entry c.requires.ranges.is_box c.requires.least.least
     (subst (λ (p : Point). IsSplitAt c.args.costs.now p entry) c.costs_there.ensures.point c.in_ok-split_there-in-None.ensures.split)
 
 pub returns-in_ok-split_there-in-None-clause-asked : goal.returns-in_ok-split_there-in-None-clause-asked
 returns-in_ok-split_there-in-None-clause-asked g c =
-    let Accepted = g.S.RowSource.accepted c.args.source.now in
+    let Accepted = g.S.FormSource.accepted c.args.source.now in
     let least : IsLeastPoint Accepted c.args.costs.now c.costs_there.new.point =
     subst (λ (p : Point). IsLeastPoint Accepted c.args.costs.now p) (sym c.costs_there.ensures.point) c.requires.least.least in
     ready_there (IsAt c.args.costs.now c.costs_there.new.point) (IsLeastPoint Accepted) _ c.args.costs.now c.in_ok-split_there-in-None.field-0 _ _

@@ -9,7 +9,7 @@ use Rattle.form_search.proofs.costs_of_points.are_values_accepted.Goals.{Else-no
 use Rattle.form_search.proofs.costs_of_points.are_values_accepted.Goals as goal
 
 within : (g : _) (c : Else-not-is_within g) → IsInBox c.args.costs.now c.args.point.now.values
-within g c = values_inside (g.S.RowSource.count c.args.source.now) c.args.costs.now c.args.point.now c.requires.inside (λ k k_in.
+within g c = values_inside (g.S.FormSource.count c.args.source.now) c.args.costs.now c.args.point.now c.requires.inside (λ k k_in.
     subst (λ (xs : List ℕ). slice_index xs k ≤ slice_index c.args.costs.now.high k) c.as_slice.ensures
     (subst (λ (hs : List ℕ). slice_index c.as_slice.result.now k ≤ slice_index hs k) c.as_slice-2.ensures
     (c.if-not-is_within.ensures refl k (omega (arith, k_in, ap length c.as_slice-2.ensures)))))
@@ -31,11 +31,11 @@ pub returns-then-not-is_within-clause-in_step : goal.returns-then-not-is_within-
 returns-then-not-is_within-clause-in_step g c = λ forms. (λ is. is, λ is. is)
 
 pub returns-then-not-is_within-clause-same : goal.returns-then-not-is_within-clause-same
-returns-then-not-is_within-clause-same g c = same_alike g.S.RowSource.count g.S.RowSource.accepted g.S.RowSource.true_form g.S.RowSource.possible_forms c.args.source.now
+returns-then-not-is_within-clause-same g c = same_alike g.S.FormSource.count g.S.FormSource.accepted g.S.FormSource.true_form g.S.FormSource.possible_forms c.args.source.now
 
 pub accepts-accepted-requires : goal.accepts-accepted-requires
 accepts-accepted-requires g c = record {
-  point = values_point (g.S.RowSource.count c.args.source.now) c.args.costs.now c.args.point.now.values c.requires.ranges
+  point = values_point (g.S.FormSource.count c.args.source.now) c.args.costs.now c.args.point.now.values c.requires.ranges
       (within g (goal.at.accepts-accepted-requires g c).Else-not-is_within);
 }
 

@@ -15,7 +15,7 @@ ask-requires-clause-met g c =
 
 pub returns-in_ok-low_costs-in-Nothing-clause-next : goal.returns-in_ok-low_costs-in-Nothing-clause-next
 returns-in_ok-low_costs-in-Nothing-clause-next g c =
-    let Accepted = g.S.RowSource.accepted c.args.source.now in
+    let Accepted = g.S.FormSource.accepted c.args.source.now in
     let box = c.args.costs.now in
     let low = box.low in
     let answer = subst (λ (asked : Asked). IsSourceAnswer Accepted c.put_costs.new.point c.args.pool.now c.ask.new.pool asked) c.in-Nothing.is c.in_ok-ask.ensures.answer in

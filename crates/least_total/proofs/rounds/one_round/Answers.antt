@@ -1,6 +1,6 @@
 -- Costs that are found are fit, and their total is within the bound.
 use Rattle.std.proofs.Common.{◌≡◌, subst}
-use Rattle.design_problem.specs.declared.form.CostBox.{CostBox}
+use Rattle.design_problem.specs.declared.boxes.CostBox.{CostBox}
 use Rattle.design_problem.specs.Boxes.{capped}
 use Rattle.design_problem.specs.Rows.{box_of}
 use Rattle.form_search.specs.declared.found.Found.{Found}

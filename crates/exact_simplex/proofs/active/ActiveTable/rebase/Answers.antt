@@ -1,6 +1,6 @@
 -- The kernel moves where it is one; and where the table in fractions moves, the kernel can be read back.
 use Rattle.std.proofs.Common.{◌≡◌, ap, subst, sym, ◌∙◌, false, length}
-use Rattle.design_problem.specs.declared.form.CostBox.{CostBox}
+use Rattle.design_problem.specs.declared.boxes.CostBox.{CostBox}
 use Rattle.design_problem.specs.Boxes.{IsBox}
 use Rattle.table_kernel.specs.declared.kernel.Kernel.{Kernel}
 use Rattle.exact_simplex.specs.declared.active.ActiveTable.{ActiveTable}

@@ -1,7 +1,7 @@
 -- The forms before a row are held, and so is one more after each round.
 use Rattle.std.proofs.Common.{refl, sym, ◌∙◌, ap, subst, arith, ◌+◌, [], ◌∷◌, ◌++◌}
 use Rattle.std.proofs.lemmas.Result.{err_from_is_err_and}
-use Rattle.design_problem.specs.declared.form.CostBox.{CostBox}
+use Rattle.design_problem.specs.declared.boxes.CostBox.{CostBox}
 use Rattle.design_problem.specs.Forms.{Form}
 use Rattle.fraction_table.specs.declared.stage.Stage.TheVariants.{Open}
 use Rattle.fraction_table.specs.Tableaus.{FitsBox, IsRowRefused}

@@ -1,7 +1,7 @@
 -- The tableau keeps its box and its forms, so what is told of it afterwards is told of them.
 use Rattle.std.proofs.Common.{refl, sym, ◌∙◌, ap, subst, length}
 use Rattle.std.proofs.lemmas.Result.{err_from_is_err_and}
-use Rattle.design_problem.specs.declared.form.CostBox.{CostBox}
+use Rattle.design_problem.specs.declared.boxes.CostBox.{CostBox}
 use Rattle.fraction_table.specs.declared.stage.Solved.{Solved}
 use Rattle.fraction_table.specs.declared.stage.Stage.{Stage}
 use Rattle.fraction_table.specs.declared.stage.Stage.TheVariants.{Ended}

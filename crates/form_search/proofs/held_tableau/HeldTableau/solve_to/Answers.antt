@@ -1,7 +1,7 @@
 -- Once all forms are held, what is told of those that are held is told of all.
 use Rattle.std.proofs.Common.{refl, sym, ◌∙◌, ap, length}
 use Rattle.std.proofs.lemmas.Result.{err_from_is_err_and, on_ok_weaker}
-use Rattle.design_problem.specs.declared.form.CostBox.{CostBox}
+use Rattle.design_problem.specs.declared.boxes.CostBox.{CostBox}
 use Rattle.form_search.proofs.HeldForms.{kept_over, step_all, told_all}
 use Rattle.form_search.proofs.held_tableau.HeldTableau.solve_to.Goals as goal
 

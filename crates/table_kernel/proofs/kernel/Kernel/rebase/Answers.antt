@@ -1,7 +1,7 @@
 -- Bound by bound the kernel moves.
 use Rattle.std.proofs.Common.{◌≡◌, ℕ, ◌<◌, ◌≤◌, ◌+◌, suc, refl, ap, sym, subst, length, arith}
 use Rattle.std.specs.Prelude.{slice_index}
-use Rattle.design_problem.specs.declared.form.CostBox.{CostBox}
+use Rattle.design_problem.specs.declared.boxes.CostBox.{CostBox}
 use Rattle.design_problem.specs.Boxes.{IsBox}
 use Rattle.fraction_table.specs.Moves.{IsMoved}
 use Rattle.fraction_table.specs.Tableaus.{between}

@@ -1,6 +1,6 @@
 -- The line has the numbers of the place's form.
 use Rattle.std.proofs.Common.{ap, sym, subst, arith, length}
-use Rattle.design_problem.specs.declared.form.CostBox.{CostBox}
+use Rattle.design_problem.specs.declared.boxes.CostBox.{CostBox}
 use Rattle.design_problem.specs.Basis.{IsFormOf}
 use Rattle.table_kernel.proofs.Columns.{place_is}
 use Rattle.table_kernel.proofs.Restated.{filled_all, filled_behind, filled_first, filled_kernel, filled_next, form_kept}

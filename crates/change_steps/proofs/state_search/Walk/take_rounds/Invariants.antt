@@ -1,5 +1,5 @@
 use Rattle.change_steps.specs.Walks.{IsUnderWay, left_of}
-use Rattle.change_steps.proofs.state_search.Walk.take_turns.Given as goal
+use Rattle.change_steps.proofs.state_search.Walk.take_rounds.Given as goal
 
 abbrev pub invariant-loop-end : goal.invariant-loop-end
 invariant-loop-end l = IsUnderWay l.plan l.nodes l.self

@@ -1,7 +1,7 @@
 use Rattle.std.proofs.Common.{ap}
 use Rattle.spread_sets.specs.Sources.{KnownSets}
 use Rattle.spread_sets.proofs.AskedSets.{same_source}
-use Rattle.spread_sets.proofs.source.SpreadsRowSource.accepts.Goals as goal
+use Rattle.spread_sets.proofs.source.SpreadsFormSource.accepts.Goals as goal
 
 pub returns-clause-same : goal.returns-clause-same
 returns-clause-same g c =

@@ -3,7 +3,7 @@ use Rattle.std.specs.Prelude.{All}
 use Rattle.form_search.specs.declared.source.Asked.{Asked}
 use Rattle.search_cases.specs.SmallForms.{AreFormsAsked, IsTiny}
 use Rattle.search_cases.proofs.Asking.{asked_all, asked_more}
-use Rattle.search_cases.proofs.source.FormListRowSource.ask.Goals as goal
+use Rattle.search_cases.proofs.source.FormListFormSource.ask.Goals as goal
 
 pub loop-place-preserved : goal.loop-place-preserved
 loop-place-preserved c =

@@ -8,7 +8,7 @@ use Rattle.form_search.specs.declared.source.Asked.TheVariants.{Added}
 use Rattle.least_total.specs.Totals.{LeadsWithin, form_of_total}
 use Rattle.least_total.specs.Bounded.{IsPoolWithTotal, BoundedRows, IsTrueWithin}
 use Rattle.least_total.proofs.Bounding.{after_rows, answered_over, answered_within, grows_over, in_step_after, in_step_over, not_come, rows_met}
-use Rattle.least_total.proofs.bounded.BoundedRowSource.ask.Goals as goal
+use Rattle.least_total.proofs.bounded.BoundedFormSource.ask.Goals as goal
 
 pub ask_all-requires-clause-met : goal.ask_all-requires-clause-met
 ask_all-requires-clause-met g c =
