@@ -85,7 +85,7 @@ pub record CannotReturn (h : Held) : Type 0 where
   pub beyond : MayReturn table → ⊥
 
 -- Until a step stops it, a tableau's lines are the table of its box and rows at its basis; they show what it found. At
--- all times its basis is one of the box and the rows, and its two work rows are as wide as the lines.
+-- all times its basis is one of the box and the rows, and its two work lines are as wide as the others.
 pub record IsSoundActive (a : ActiveTable) (stage : Stage) : Type 0 where
   pub active : IsGoing stage → IsActive a
   pub shown : IsShown a.kernel.table.basis.items (table_of a).lines.items stage

@@ -5,7 +5,7 @@ ghost use Rattle.design_problem.specs.Boxes.{IsBox, Refutes};
 ghost use Rattle.design_problem.specs.Earnest.{IsLeastPoint};
 ghost use Rattle.design_problem.specs.Steps.{IsRefutingForm, IsStepTooWide};
 ghost use Rattle.design_problem.specs.Forms.{AreMet};
-ghost use Rattle.fraction_rows.specs.TableLines.{blank_line};
+ghost use Rattle.fraction_lines.specs.TableLines.{blank_line};
 ghost use Rattle.fraction_table.specs.declared.stage.Stage.{Stage};
 ghost use Rattle.fraction_table.specs.declared.stage.Stage.TheVariants.{Ended, Open};
 ghost use Rattle.fraction_table.specs.Multipliers.{IsWideAtBasis};
@@ -307,7 +307,7 @@ impl ActiveTable {
         self.kernel.table.put_corner(into)
     }
 
-    /// Whole multipliers of rows that refute the box, by a refuting line.
+    /// Whole multipliers of rows that refute the box, by a refuting form.
     ///
     /// # Errors
     ///

@@ -11,11 +11,11 @@ use Rattle.design_problem.specs.Basis.{entry}
 use Rattle.design_problem.specs.Steps.{IsPivot, IsTableStep, IsStepTooWide}
 use Rattle.design_problem.specs.Steps.IsTableStep.{pivot_product}
 use Rattle.fraction_table.specs.declared.table.Table.{Table}
-use Rattle.fraction_rows.specs.TableLines.IsDivideStep.{quotient}
-use Rattle.fraction_rows.specs.Entries.{IsPassing}
+use Rattle.fraction_lines.specs.TableLines.IsDivideStep.{quotient}
+use Rattle.fraction_lines.specs.Entries.{IsPassing}
 use Rattle.fraction_table.specs.Tableaus.{wide_at}
-use Rattle.fraction_rows.specs.Turns.{IsQuotientStepOf}
-use Rattle.fraction_rows.specs.Turns.IsQuotientStepOf.{dividing}
+use Rattle.fraction_lines.specs.Turns.{IsQuotientStepOf}
+use Rattle.fraction_lines.specs.Turns.IsQuotientStepOf.{dividing}
 use Rattle.fraction_table.specs.ValidTables.{IsTableau}
 use Rattle.fraction_table.specs.Pivots.{IsNotAfterInTable, LeadsNoNegative, entries_order, line_at, numbers_of_line, member_at, numbers_in_column, turned_column}
 use Rattle.fraction_table.proofs.Pivots.{entry_number, form_line, line_long, quotients_wide, wide_step}

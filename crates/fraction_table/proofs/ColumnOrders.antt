@@ -13,8 +13,8 @@ use Rattle.design_problem.specs.Basis.{entry, member_form}
 use Rattle.fraction_table.specs.declared.table.Table.{Table}
 use Rattle.fraction_table.specs.ValidTables.{IsTableau}
 use Rattle.fraction_table.specs.Pivots.{LeadsNoNegative, entries_order, line_at, numbers_of_line, member_at, numbers_in_column, turned_column}
-use Rattle.fraction_rows.proofs.ZeroFractions.{divided_lowest, times_lowest}
-use Rattle.fraction_rows.proofs.RowLaws.{number_at as number_there}
+use Rattle.fraction_lines.proofs.ZeroFractions.{divided_lowest, times_lowest}
+use Rattle.fraction_lines.proofs.TableLineLaws.{number_at as number_there}
 use Rattle.fraction_table.proofs.theory.TurnedNumbers.{numbers_long}
 use Rattle.fraction_table.proofs.IntegralTurns.{stand_at}
 use Rattle.fraction_table.proofs.Bases.{low_line_stands, lows_counted}

@@ -15,12 +15,12 @@ use Rattle.design_problem.specs.declared.tree.Member.{Member}
 use Rattle.design_problem.specs.declared.tree.Member.TheVariants.{Low, High, Row}
 use Rattle.design_problem.specs.Forms.{no_form}
 use Rattle.design_problem.specs.Basis.{IsFormOf, IsMixture, entry, forms_of, member_form}
-use Rattle.fraction_rows.specs.TableLines.{AreTableNumbers, divided_without}
+use Rattle.fraction_lines.specs.TableLines.{AreTableNumbers, divided_without}
 use Rattle.fraction_table.specs.Tableaus.{FitsBox}
-use Rattle.fraction_rows.specs.Turns.{AreTableLines, turned_by, unless_none}
+use Rattle.fraction_lines.specs.Turns.{AreTableLines, turned_by, unless_none}
 use Rattle.fraction_table.specs.ValidTables.{AllLong, IsTableLine, IsTableauOf, Stand, low_forms, members_of_box, number_of_form, numbers_of_form}
 use Rattle.fraction_table.specs.Pivots.{IsLeastColumn}
-use Rattle.fraction_rows.proofs.RowLaws.{number_at as number_there}
+use Rattle.fraction_lines.proofs.TableLineLaws.{number_at as number_there}
 use Rattle.fraction_table.proofs.theory.Resolved.{resolved, stand_length}
 use Rattle.fraction_table.proofs.theory.Blends.{form_mixture}
 use Rattle.fraction_table.proofs.theory.Pivot.{turned}
@@ -53,7 +53,7 @@ by_zero P (pos zero) kept other none some = none refl
 by_zero P (pos (suc n)) kept other none some = some
 by_zero P (negsuc n) kept other none some = some
 
--- a row of fractions after the pivot by the row es on a place
+-- a line of fractions after the pivot by the line es on a place
 abbrev pub turned_line : List Fraction → ℕ → List Fraction → List Fraction
 turned_line es place fs = turned_by fs (divided_without place (entry es place) es 0) place (divided (whole (pos 1)) (entry es place))
 

@@ -14,7 +14,7 @@ use Rattle.design_problem.specs.declared.tree.Member.{Member}
 use Rattle.design_problem.specs.declared.tree.Member.TheVariants.{Low, High, Row}
 use Rattle.design_problem.specs.Forms.{no_form}
 use Rattle.design_problem.specs.Basis.{IsFormOf, forms_of, low_member, member_form}
-use Rattle.fraction_rows.specs.TableLines.{AreTableNumbers}
+use Rattle.fraction_lines.specs.TableLines.{AreTableNumbers}
 use Rattle.fraction_table.specs.Tableaus.{FitsBox}
 use Rattle.fraction_table.specs.ValidTables.{AreMixtures, IsTableLine, IsTableauOf, Stand, high_member, low_forms, members_of_box, number_of_form, numbers_of_form}
 use Rattle.fraction_table.proofs.StartingTables.{members_are}

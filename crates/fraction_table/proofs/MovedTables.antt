@@ -16,13 +16,13 @@ use Rattle.design_problem.specs.declared.tree.Member.TheVariants.{Low, High, Row
 use Rattle.design_problem.specs.Boxes.{with_high, with_low}
 use Rattle.design_problem.specs.Forms.{no_form}
 use Rattle.design_problem.specs.Basis.{IsFormOf, entry, member_form}
-use Rattle.fraction_rows.specs.TableLines.{AreTableNumbers, nothing}
+use Rattle.fraction_lines.specs.TableLines.{AreTableNumbers, nothing}
 use Rattle.fraction_table.specs.Tableaus.{moved_member}
 use Rattle.fraction_table.specs.ValidTables.{Stand, number_of_form, numbers_of_form}
 use Rattle.fraction_table.specs.Moves.{fallen, raised_line}
 use Rattle.fraction_table.proofs.theory.MovedNumbers.{IsNumbered, fallen_constant, high_falls, low_falls, lowered_number, lowered_numbered, lowered_rows, raised, raised_constant, raised_numbered, raised_other}
-use Rattle.fraction_rows.proofs.ZeroFractions.{times_lowest}
-use Rattle.fraction_rows.proofs.RowLaws.{number_at as number_there}
+use Rattle.fraction_lines.proofs.ZeroFractions.{times_lowest}
+use Rattle.fraction_lines.proofs.TableLineLaws.{number_at as number_there}
 use Rattle.fraction_table.proofs.theory.TurnedNumbers.{numbers_at, numbers_long}
 use Rattle.fraction_table.proofs.IntegralTurns.{stand_at}
 

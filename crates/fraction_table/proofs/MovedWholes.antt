@@ -15,16 +15,16 @@ use Rattle.design_problem.specs.declared.tree.Member.{Member}
 use Rattle.design_problem.specs.declared.tree.Member.TheVariants.{Low, High, Row}
 use Rattle.design_problem.specs.Forms.{no_form}
 use Rattle.design_problem.specs.Basis.{IsFormOf, forms_of, low_member, member_form}
-use Rattle.fraction_rows.specs.TableLines.{nothing}
+use Rattle.fraction_lines.specs.TableLines.{nothing}
 use Rattle.fraction_table.specs.Tableaus.{moved_basis, moved_member}
-use Rattle.fraction_rows.specs.Turns.{AreTableLines}
+use Rattle.fraction_lines.specs.Turns.{AreTableLines}
 use Rattle.fraction_table.specs.ValidTables.{AllLong, AreMixtures, IsTableLine, IsUnboxed, Stand, high_member, low_forms, members_of_box, number_of_form, numbers_of_form}
 use Rattle.fraction_table.specs.Moves.{IsColumnOf, fallen, put_at, raised_line, shifted_lines}
 use Rattle.fraction_table.proofs.Bases.{members_begin}
 use Rattle.fraction_table.proofs.theory.MovedNumbers.{fallen_constant}
 use Rattle.fraction_table.proofs.MovedTables.{AreMoved, IsFall, IsInside, IsLong, fallen_basis, map_none, map_one, other_kept, other_raised, own_lowered, own_zeroed}
 use Rattle.fraction_table.proofs.Pivots.{high_place, members_long, row_place}
-use Rattle.fraction_rows.proofs.RowLaws.{rows_at}
+use Rattle.fraction_lines.proofs.TableLineLaws.{lines_at}
 use Rattle.fraction_table.proofs.theory.Resolved.{stand_length}
 use Rattle.fraction_table.proofs.theory.TurnedNumbers.{numbers_long}
 use Rattle.fraction_table.proofs.StartingTables.{members_are}
@@ -339,7 +339,7 @@ lines_moved top costs next rows basis table u news before after fall column own 
     line i i_in =
         let member = moved_member next (slice_index_or (members_of_box costs (length rows)) i (Low 0 0)) in
         let now = slice_index_or (shifted_lines column own (whole fall) table) i [] in
-        let here = rows_at top (suc (length costs.low)) (shifted_lines column own (whole fall) table) i [] m.rows_are
+        let here = lines_at top (suc (length costs.low)) (shifted_lines column own (whole fall) table) i [] m.rows_are
         (omega (arith, length_shifted column own (whole fall) table, as_long, i_in)) in
         record {
           numbers = here.1;

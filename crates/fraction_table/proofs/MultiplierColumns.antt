@@ -22,11 +22,11 @@ use Rattle.design_problem.specs.declared.tree.Member.{Member}
 use Rattle.design_problem.specs.declared.tree.Member.TheVariants.{Low, High, Row}
 use Rattle.design_problem.specs.Basis.{IsFormOf, entry}
 use Rattle.design_problem.specs.Steps.{column_part, column_parts, denominators, made_whole, refuting_multipliers, own_multiplier, unless_zero}
-use Rattle.fraction_rows.specs.Entries.{AllNumbers}
-use Rattle.fraction_rows.specs.TableLines.{AreTableNumbers, IsTableNumber}
+use Rattle.fraction_lines.specs.Entries.{AllNumbers}
+use Rattle.fraction_lines.specs.TableLines.{AreTableNumbers, IsTableNumber}
 use Rattle.fraction_table.specs.ValidTables.{Stand}
 use Rattle.fraction_table.specs.Multipliers.{IsMultiplier, columns_numbered, common_of, fractions, fractions_of, numbered, whole_multiplier, whole_multipliers, wholes}
-use Rattle.fraction_rows.proofs.ZeroFractions.{times_lowest}
+use Rattle.fraction_lines.proofs.ZeroFractions.{times_lowest}
 use Rattle.fraction_table.proofs.Solutions.{low_number}
 use Rattle.fraction_table.proofs.MultiplierSums.{AreMade, IsEntry}
 

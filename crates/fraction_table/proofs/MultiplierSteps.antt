@@ -16,13 +16,13 @@ use Rattle.wide_fraction.specs.declared.steps.Wide.{Wide}
 use Rattle.wide_fraction.specs.Widths.{IsTop}
 use Rattle.design_problem.specs.Steps.{denominators, lcm_of}
 use Rattle.fraction_table.specs.declared.stage.SimplexStop.TheVariants.{TooWide}
-use Rattle.fraction_rows.specs.Entries.{AllNumbers, IsPassing}
+use Rattle.fraction_lines.specs.Entries.{AllNumbers, IsPassing}
 use Rattle.fraction_table.specs.Multipliers.{IsMultiplierStep, IsTallyStep, IsWideMultiplier, common_of, fractions, whole_multiplier, wholes}
 use Rattle.fraction_table.specs.Multipliers.IsMultiplierStep.{multiple, product}
 use Rattle.fraction_table.specs.Multipliers.IsTallyStep.{sum, scale}
-use Rattle.fraction_rows.specs.TableLines.{IsTableNumber}
+use Rattle.fraction_lines.specs.TableLines.{IsTableNumber}
 use Rattle.fraction_table.proofs.MultiplierColumns.{whole_from}
-use Rattle.fraction_rows.proofs.SmallNumbers.{top_small}
+use Rattle.fraction_lines.proofs.SmallNumbers.{top_small}
 
 -- a number of at most 127 bits is read as it is
 pub read_back : (z : ℤ) → nat_abs z < 2 ^ 127 → to_z w128 (of_z w128 z) ≡ z

@@ -15,20 +15,20 @@ use Rattle.design_problem.specs.declared.tree.Member.TheVariants.{Low, Row}
 use Rattle.design_problem.specs.Basis.{IsFormOf, entry, low_member, member_form}
 use Rattle.design_problem.specs.Steps.{IsPivot, IsTableStep, IsStepTooWide}
 use Rattle.fraction_table.specs.declared.table.Table.{Table}
-use Rattle.fraction_rows.specs.Entries.{IsPassing}
-use Rattle.fraction_rows.specs.TableLines.{IsWideStep, divided_without}
+use Rattle.fraction_lines.specs.Entries.{IsPassing}
+use Rattle.fraction_lines.specs.TableLines.{IsWideStep, divided_without}
 use Rattle.fraction_table.specs.Tableaus.{wide_at}
-use Rattle.fraction_rows.specs.Turns.{AreTableLines, IsQuotientStepOf, IsTurnStep, TurnsWide, turned_by}
+use Rattle.fraction_lines.specs.Turns.{AreTableLines, IsQuotientStepOf, IsTurnStep, TurnsWide, turned_by}
 use Rattle.fraction_table.specs.ValidTables.{IsTableLine, IsTableauOf, IsTableau, high_member, members_of_box, numbers_of_form}
 use Rattle.fraction_table.specs.Pivots.{IsLeastIn, line_at, numbers_of_line, member_at}
 use Rattle.fraction_table.proofs.theory.Resolved.{stand_length}
-use Rattle.fraction_rows.proofs.ZeroFractions.{inverse_positive}
-use Rattle.fraction_rows.proofs.RowLaws.{number_at as number_there, times_not_zero}
+use Rattle.fraction_lines.proofs.ZeroFractions.{inverse_positive}
+use Rattle.fraction_lines.proofs.TableLineLaws.{number_at as number_there, times_not_zero}
 use Rattle.fraction_table.proofs.theory.TurnedNumbers.{numbers_at, numbers_long}
 use Rattle.fraction_table.proofs.IntegralTurns.{IsPivotOf, stand_at, turned_line, whole_turned}
 use Rattle.fraction_table.proofs.Bases.{line_entries, whole_table}
 use Rattle.fraction_table.proofs.StartingTables.{members_are}
-use Rattle.fraction_rows.proofs.PivotSteps.{IsFormLine, quotient_is_step, turn_is_step}
+use Rattle.fraction_lines.proofs.PivotSteps.{IsFormLine, quotient_is_step, turn_is_step}
 use Rattle.fraction_table.proofs.theory.Zips.{zip_at}
 
 -- a line of a whole table is that of its member
@@ -129,17 +129,17 @@ pub turning_wide : (t : Table) (w : IsTableau t) (line column : ℕ) (ts : List 
     IsStepTooWide t.top t.costs t.rows.items (wide_at wide t.basis.items)
 turning_wide t w line column ts inverse line_in pivot ts_are inverse_is wide is =
     let made = is.wide in
-    let turned : IsTurnStep (line_at t is.row)
+    let turned : IsTurnStep (line_at t is.line)
     (divided_without (suc column) (entry (line_at t line) (suc column)) (line_at t line) 0) (suc column)
     (divided (whole (pos 1)) (entry (line_at t line) (suc column))) wide.step wide.left wide.right =
     subst (λ (qs : List Fraction).
-    IsTurnStep (line_at t is.row) qs (suc column) (divided (whole (pos 1)) (entry (line_at t line) (suc column)))
+    IsTurnStep (line_at t is.line) qs (suc column) (divided (whole (pos 1)) (entry (line_at t line) (suc column)))
     wide.step wide.left wide.right) ts_are
-    (subst (λ (q : Fraction). IsTurnStep (line_at t is.row) ts (suc column) q wide.step wide.left wide.right) inverse_is made.0) in
+    (subst (λ (q : Fraction). IsTurnStep (line_at t is.line) ts (suc column) q wide.step wide.left wide.right) inverse_is made.0) in
     wide_step t w wide
     (turn_is_step t.top t.costs t.rows.items t.basis.items (take (length t.costs.low) t.lines.items) (member_at t line)
-    (member_at t is.row) (line_at t line) (line_at t is.row) (suc column) (form_line t w line line_in) pivot
-    (form_line t w is.row is.row_in) wide.step wide.left wide.right turned made.1)
+    (member_at t is.line) (line_at t line) (line_at t is.line) (suc column) (form_line t w line line_in) pivot
+    (form_line t w is.line is.line_in) wide.step wide.left wide.right turned made.1)
     made.1
 
 -- what a positive fraction stands for is positive
@@ -171,7 +171,7 @@ entry_number t w line column line_in pivot =
     positive_number (entry es (suc column)).numerator (number_at (numbers_of_line t w line) (suc column))
     (entry es (suc column)).denominator w.unboxed.common here.lowest.positive w.unboxed.positive stands pivot.above
 
--- the lines, turned by the quotients and the inverse that were made of a row
+-- the lines, turned by the quotients and the inverse that were made of a line
 pub news_turned : (es row qs : List Fraction) (place : ℕ) (inverse : Fraction)
     (news rows lines : List (List Fraction)) → news ≡ map (λ fs. turned_by fs qs place inverse) rows → rows ≡ lines →
     qs ≡ divided_without place (entry row place) row 0 → inverse ≡ divided (whole (pos 1)) (entry row place) →

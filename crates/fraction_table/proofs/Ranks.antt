@@ -14,13 +14,13 @@ use Rattle.design_problem.specs.Earnest.{LexLess}
 use Rattle.design_problem.specs.Steps.{IsPivot}
 use Rattle.fraction_table.specs.declared.table.Table.{Table}
 use Rattle.design_problem.specs.declared.boxes.CostBox.{CostBox}
-use Rattle.fraction_rows.specs.TableLines.{IsTableNumber}
-use Rattle.fraction_rows.specs.Turns.{AreTableLines}
+use Rattle.fraction_lines.specs.TableLines.{IsTableNumber}
+use Rattle.fraction_lines.specs.Turns.{AreTableLines}
 use Rattle.fraction_table.specs.ValidTables.{AllLong, IsTableau}
 use Rattle.fraction_table.specs.Pivots.{IsLeastIn, KeepsBoxAndRows, line_at, numbers_of_line, member_at, numbers_in_column, turned_column}
 use Rattle.fraction_table.specs.Ranks.{digits_number, heights, past_heights, raised_height, rank}
 use Rattle.fraction_table.proofs.theory.Height.{digits_number-lt, digits_rise, height_rises}
-use Rattle.fraction_rows.proofs.RowLaws.{number_at as number_there, rows_at}
+use Rattle.fraction_lines.proofs.TableLineLaws.{number_at as number_there, lines_at}
 use Rattle.fraction_table.proofs.theory.Turns.{turned_rows}
 use Rattle.fraction_table.proofs.theory.TurnedNumbers.{numbers_long}
 use Rattle.fraction_table.proofs.theory.TurnedLeads.{column_other, length-numbers_in}
@@ -213,7 +213,7 @@ constants_there t w line column a line_in p rows v v_in =
     let as_many = length-map t.lines.items (turned_line (line_at t line) (suc column)) in
     let before = low_line_stands t.top t.costs t.rows.items t.basis.items t.lines.items w v 0 v_in (omega arith) in
     let after = low_line_stands t.top t.costs t.rows.items basis news whole v 0 v_in (omega arith) in
-    let row = rows_at t.top (suc (length t.costs.low)) news v [] rows (omega (arith, as_many, many, v_in)) in
+    let row = lines_at t.top (suc (length t.costs.low)) news v [] rows (omega (arith, as_many, many, v_in)) in
     record {
       old = constant_number t w v (omega (arith, many, v_in));
       new = number_there t.top (slice_index_or news v []) 0 row.1 (omega (arith, row.0));
@@ -266,7 +266,7 @@ rank_rises t w line column news line_in pivot least news_are rows =
     (digits_rise (past_heights t.top) (heights t.top n t.lines.items) (heights t.top n turned)
     (heights_small t.top n t.lines.items (λ v v_in v_there. constant_number t w v v_there))
     (heights_small t.top n turned (λ v v_in v_there.
-    (let row = rows_at t.top (suc n) turned v [] turned_rows_are v_there in
+    (let row = lines_at t.top (suc n) turned v [] turned_rows_are v_there in
     number_there t.top (slice_index_or turned v []) 0 row.1 (omega (arith, row.0)))))
     (heights_long t.top n t.lines.items many ∙ sym (heights_long t.top n turned (omega (arith, as_many, many))))
     higher)

@@ -1,4 +1,4 @@
--- The whole multipliers of a refuting line refute the box.
+-- The whole multipliers of a refuting form refute the box.
 use Rattle.std.proofs.Common.{◌≡◌, ℕ, zero, suc, ◌^◌, ◌<◌, ◌≤◌, refl, sym, ◌∙◌, ap, subst, List, [], ◌∷◌, map, take, length, drop, arith}
 use Rattle.std.specs.Prelude.{ℤ, pos, negsuc, ◌+ℤ◌, ◌*ℤ◌, ◌<ℤ◌, ◌≤ℤ◌, Result, Ok, Err, IfErr, IfOk, slice_index_or, sum_by, All}
 use Rattle.std.specs.List.{AllByRecursion}
@@ -27,11 +27,11 @@ use Rattle.design_problem.proofs.AtCosts.{value_at_costs}
 use Rattle.fraction_table.specs.declared.table.Table.{Table}
 use Rattle.fraction_table.specs.declared.stage.SimplexStop.{SimplexStop}
 use Rattle.fraction_table.specs.declared.stage.SimplexStop.TheVariants.{TooWide, OutOfMemory}
-use Rattle.fraction_rows.specs.Entries.{IsPassing}
+use Rattle.fraction_lines.specs.Entries.{IsPassing}
 use Rattle.fraction_table.specs.Multipliers.{AreParts, Different, IsMultiplierStep, IsMultiplier, IsTallyStep, IsWideAtBasis, IsWideMultiplier, columns_numbered, common_of, fractions, fractions_of, numbered, whole_multiplier, whole_multipliers}
 use Rattle.fraction_table.specs.Multipliers.IsMultiplierStep.{multiple, product, tally}
 use Rattle.fraction_table.specs.Multipliers.IsTallyStep.{sum, scale}
-use Rattle.fraction_rows.specs.TableLines.{AreTableNumbers}
+use Rattle.fraction_lines.specs.TableLines.{AreTableNumbers}
 use Rattle.fraction_table.specs.Tableaus.{wide_at}
 use Rattle.fraction_table.specs.ValidTables.{IsTableau, Stand, low_forms, number_of_form}
 use Rattle.fraction_table.specs.Pivots.{line_at, member_at}
@@ -39,7 +39,7 @@ use Rattle.fraction_table.proofs.theory.Blends.{form_mixture}
 use Rattle.fraction_table.proofs.Pivots.{form_line, line_long, member_is, whole_line, wide_step}
 use Rattle.fraction_table.proofs.theory.Points.{equation_at, mixed_at}
 use Rattle.fraction_table.proofs.theory.Resolved.{resolved}
-use Rattle.fraction_rows.proofs.RowLaws.{number_at as number_there, one_within}
+use Rattle.fraction_lines.proofs.TableLineLaws.{number_at as number_there, one_within}
 use Rattle.fraction_table.proofs.Solutions.{member_met, refuting_first}
 use Rattle.fraction_table.proofs.IntegralTurns.{coefficients_long}
 use Rattle.fraction_table.proofs.MultiplierSums.{AllHigh, IsHigh, member_sum, parts_negative}
@@ -100,7 +100,7 @@ rest_long : (es : List Fraction) (n : ℕ) → length es ≡ suc n → length (d
 rest_long [] n counted = absurd (omega arith)
 rest_long (e ∷ es) n counted = omega arith
 
--- A refuting line, by what the table shows of it.
+-- The line of a refuting form, by what the table shows of it.
 pub record IsRefutingLine (t : Table) (line : ℕ) : Type 0 where
   pub tableau : IsTableau t
   pub line_in : line < length t.lines.items
@@ -340,7 +340,7 @@ parts_few t line parts s moved =
     let made = whole_multipliers (parts_at t line) in
     omega (arith, length_permutation made parts moved, length-map (parts_at t line) (whole_multiplier (common_of (parts_at t line))), parts_long t line s)
 
--- what the parts of a refuting line answer, made whole
+-- what the parts of a refuting form answer, made whole
 pub made_refute : (t : Table) (line : ℕ) (parts : List (ℕ × Fraction)) (r : Result (List (ℕ × ℕ)) SimplexStop) →
     IsRefutingLine t line → parts ≡ parts_at t line → IfOk r (IsPermutation (whole_multipliers parts)) →
     IfOk r (λ made. sum_by (λ part. part.1) made < 2 ^ 100) → IfOk r (λ made. Refutes t.rows.items made t.costs)

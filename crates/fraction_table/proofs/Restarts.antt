@@ -13,10 +13,10 @@ use Rattle.design_problem.specs.declared.tree.Member.TheVariants.{Low, High}
 use Rattle.design_problem.specs.declared.form.Term.{Term}
 use Rattle.design_problem.specs.Forms.{terms_from, value_for_costs, no_term}
 use Rattle.design_problem.proofs.TermLaws.{rising_from}
-use Rattle.fraction_rows.proofs.TermSums.{term_in}
+use Rattle.fraction_lines.proofs.TermSums.{term_in}
 use Rattle.design_problem.specs.Basis.{IsFormOf, entry, low_member, member_form, unit}
-use Rattle.fraction_rows.specs.TableLines.{AreTableNumbers, blank_line, nothing}
-use Rattle.fraction_rows.proofs.BlankLines.{blank_entry, blank_size, cleared_set}
+use Rattle.fraction_lines.specs.TableLines.{AreTableNumbers, blank_line, nothing}
+use Rattle.fraction_lines.proofs.BlankLines.{blank_entry, blank_size, cleared_set}
 use Rattle.fraction_table.specs.Tableaus.{FitsBox, Held, IsRebased, moved_basis, rebased, starting}
 use Rattle.fraction_table.specs.declared.stage.Stage.{Stage}
 use Rattle.fraction_table.specs.declared.stage.Stage.TheVariants.{Open}
@@ -24,12 +24,12 @@ use Rattle.fraction_table.proofs.Pivots.{members_long}
 use Rattle.fraction_table.specs.ValidTables.{IsTableauOf, IsTableau, held_of, members_of_box, starting_line}
 use Rattle.fraction_table.specs.Moves.{HasShape, IsMoved, KeepsAllButLines, KeepsTableLines}
 use Rattle.fraction_table.specs.Pivots.{member_at}
-use Rattle.fraction_rows.specs.Turns.{AreTableLines}
+use Rattle.fraction_lines.specs.Turns.{AreTableLines}
 use Rattle.fraction_table.specs.declared.table.Table.{Table}
 use Rattle.design_problem.specs.Boxes.{IsBox}
 use Rattle.fraction_table.proofs.StartingTables.{whole_start}
 use Rattle.fraction_table.proofs.BetweenBoxes.{all_written, written_next}
-use Rattle.fraction_rows.proofs.SmallNumbers.{whole_number}
+use Rattle.fraction_lines.proofs.SmallNumbers.{whole_number}
 use Rattle.fraction_table.proofs.theory.Units.{high_value, low_value}
 use Rattle.fraction_table.proofs.IntegralTurns.{coefficients_long}
 

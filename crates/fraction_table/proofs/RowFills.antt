@@ -11,13 +11,13 @@ use Rattle.design_problem.specs.declared.boxes.CostBox.{CostBox}
 use Rattle.design_problem.specs.Basis.{entry}
 use Rattle.design_problem.specs.Steps.{start_of_sum}
 use Rattle.wide_fraction.specs.declared.steps.Wide.{Wide}
-use Rattle.fraction_rows.specs.Entries.{IsPassing}
+use Rattle.fraction_lines.specs.Entries.{IsPassing}
 use Rattle.fraction_table.specs.RowLines.{IsAddedLine, IsRowStep, sum_at_place}
-use Rattle.fraction_rows.specs.Sums.{IsSumStep, sum_of_terms}
-use Rattle.fraction_rows.specs.TableLines.{AreTableNumbers, IsTableNumber, blank_line, nothing}
-use Rattle.fraction_rows.proofs.BlankLines.{blank_entry, blank_size}
-use Rattle.fraction_rows.proofs.ZeroFractions.{nothing_number}
-use Rattle.fraction_rows.proofs.RowLaws.{written_numbers}
+use Rattle.fraction_lines.specs.Sums.{IsSumStep, sum_of_terms}
+use Rattle.fraction_lines.specs.TableLines.{AreTableNumbers, IsTableNumber, blank_line, nothing}
+use Rattle.fraction_lines.proofs.BlankLines.{blank_entry, blank_size}
+use Rattle.fraction_lines.proofs.ZeroFractions.{nothing_number}
+use Rattle.fraction_lines.proofs.TableLineLaws.{written_numbers}
 
 -- the first places of a line have the form's sums, and the others 0
 pub record IsFilledTo (top : ℕ) (costs : CostBox) (form : Form) (lines : List (List Fraction)) (count : ℕ) (line : List Fraction) : Type 0 where

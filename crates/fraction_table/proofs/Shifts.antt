@@ -19,7 +19,7 @@ use Rattle.fraction_table.specs.declared.table.Table.{Table}
 use Rattle.fraction_table.specs.Pivots.{KeepsBoxAndRows}
 use Rattle.fraction_table.specs.Tableaus.{IsShiftStep, moved_basis, moved_member}
 use Rattle.fraction_table.specs.Tableaus.IsShiftStep.{constant, product, sum}
-use Rattle.fraction_rows.specs.Turns.{AreTableLines}
+use Rattle.fraction_lines.specs.Turns.{AreTableLines}
 use Rattle.fraction_table.specs.ValidTables.{HasRoom, IsTableLine, IsUnboxed, IsUnboxedTable, low_forms, members_of_box, numbers_of_form}
 use Rattle.fraction_table.specs.Moves.{HasShape, IsColumnOf, IsRaiseStep, IsTableShifted, IsShiftedWide, IsWideShift, KeepsTableLines, ShiftsWide, high_shift_of, low_shift_of, shifted_lines}
 use Rattle.fraction_table.specs.Moves.IsRaiseStep.{product as raise_product, sum as raise_sum}

@@ -25,7 +25,7 @@ use Rattle.fraction_table.specs.declared.table.Table.{Table}
 use Rattle.fraction_table.specs.declared.stage.Solved.{Solved}
 use Rattle.fraction_table.specs.declared.stage.Stage.TheVariants.{Ended}
 use Rattle.fraction_table.specs.declared.stage.Solved.TheVariants.{Feasible, Refuted}
-use Rattle.fraction_rows.specs.TableLines.{AreTableNumbers}
+use Rattle.fraction_lines.specs.TableLines.{AreTableNumbers}
 use Rattle.fraction_table.specs.Tableaus.{IsAmongForms, IsSolved}
 use Rattle.fraction_table.specs.ValidTables.{IsTableLine, IsShown, IsTableau, Stand, high_member, low_forms, members_of_box, number_of_form}
 use Rattle.fraction_table.specs.Pivots.{AreHigh, KeepsBoxAndRows, line_at, numbers_of_line, member_at}
@@ -33,7 +33,7 @@ use Rattle.fraction_table.proofs.theory.Corner.{NotAbove, refuting_negative}
 use Rattle.fraction_table.proofs.theory.Tables.{IsCorner, corner_value}
 use Rattle.fraction_table.proofs.theory.Blends.{form_mixture}
 use Rattle.fraction_table.proofs.theory.Resolved.{resolved}
-use Rattle.fraction_rows.proofs.RowLaws.{number_at as number_there}
+use Rattle.fraction_lines.proofs.TableLineLaws.{number_at as number_there}
 use Rattle.fraction_table.proofs.theory.TurnedNumbers.{numbers_at, numbers_long}
 use Rattle.fraction_table.proofs.theory.Units.{unit_dot}
 use Rattle.fraction_table.proofs.IntegralTurns.{coefficients_long, stand_at}

@@ -8,7 +8,7 @@ use Rattle.design_problem.specs.Boxes.{IsBox}
 use Rattle.fraction_table.specs.declared.table.Table.{Table}
 use Rattle.fraction_table.specs.declared.stage.Stage.TheVariants.{Open}
 use Rattle.fraction_table.specs.Tableaus.{FitsBox, starting}
-use Rattle.fraction_rows.specs.Turns.{AreTableLines}
+use Rattle.fraction_lines.specs.Turns.{AreTableLines}
 use Rattle.fraction_table.specs.ValidTables.{IsSound, IsTableauOf, members_of_box, starting_line}
 use Rattle.fraction_table.proofs.Bases.{whole_basis}
 use Rattle.fraction_table.proofs.StartingTables.{whole_start}

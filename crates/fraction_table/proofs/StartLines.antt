@@ -10,11 +10,11 @@ use Rattle.whole_numbers.specs.Fractions.{Fraction, whole}
 use Rattle.wide_fraction.specs.Widths.{IsTop}
 use Rattle.design_problem.specs.declared.boxes.CostBox.{CostBox}
 use Rattle.design_problem.specs.Basis.{low_member, unit}
-use Rattle.fraction_rows.specs.TableLines.{AreTableNumbers, nothing}
-use Rattle.fraction_rows.specs.Turns.{AreTableLines}
+use Rattle.fraction_lines.specs.TableLines.{AreTableNumbers, nothing}
+use Rattle.fraction_lines.specs.Turns.{AreTableLines}
 use Rattle.fraction_table.specs.ValidTables.{high_member, members_of_box, starting_line}
-use Rattle.fraction_rows.proofs.FilledRows.{mapped_written}
-use Rattle.fraction_rows.proofs.SmallNumbers.{whole_number}
+use Rattle.fraction_lines.proofs.FilledLines.{mapped_written}
+use Rattle.fraction_lines.proofs.SmallNumbers.{whole_number}
 use Rattle.fraction_table.proofs.theory.Units.{high_value, low_value}
 
 pub rows_more : (top count : ℕ) (olds news : List (List Fraction)) (line : List Fraction) → news ≡ olds ++ line ∷ [] →

@@ -18,7 +18,7 @@ use Rattle.design_problem.specs.Forms.{no_form, value_for_costs}
 use Rattle.design_problem.specs.Boxes.{IsBox}
 use Rattle.design_problem.specs.Basis.{IsFormOf, LeadsPositive, coordinate, forms_of, low_member, member_form, mixture, one_form, unit}
 use Rattle.fraction_table.specs.Tableaus.{FitsBox, starting}
-use Rattle.fraction_rows.specs.Turns.{AreTableLines}
+use Rattle.fraction_lines.specs.Turns.{AreTableLines}
 use Rattle.fraction_table.specs.ValidTables.{AllLong, AreMixtures, IsTableLine, IsTableauOf, Stand, from_lows, high_member, low_forms, members_of_box, number_of_form, numbers_of_form, starting_line}
 use Rattle.fraction_table.proofs.theory.Blends.{listed_at}
 use Rattle.fraction_table.proofs.theory.Lex.{zero_leads}

@@ -8,7 +8,7 @@ use Rattle.std.proofs.lemmas.List.Sums.{sum_by-cons}
 use Rattle.cost_base.proofs.ListLemmas.{each_weaker, all_from_each}
 use Rattle.whole_numbers.specs.Fractions.{Fraction}
 use Rattle.wide_fraction.specs.declared.steps.Wide.{Wide}
-use Rattle.fraction_rows.specs.Entries.{AllNumbers}
+use Rattle.fraction_lines.specs.Entries.{AllNumbers}
 use Rattle.fraction_table.specs.Multipliers.{AreParts, IsMultiplierStep, IsMultiplier, IsTallyStep, common_of, fractions, whole_multipliers, wholes}
 use Rattle.fraction_table.specs.Multipliers.IsMultiplierStep.{tally}
 use Rattle.fraction_table.proofs.MultiplierColumns.{common_divides, common_positive, numbers_of_parts, parts_whole, wholes_are}

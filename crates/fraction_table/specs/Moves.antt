@@ -10,8 +10,8 @@ use Rattle.design_problem.specs.declared.tree.Member.{Member}
 use Rattle.design_problem.specs.declared.tree.Member.TheVariants.{Low, High}
 use Rattle.design_problem.specs.Basis.{entry}
 use Rattle.fraction_table.specs.declared.table.Table.{Table}
-use Rattle.fraction_rows.specs.TableLines.{IsWideStep, nothing}
-use Rattle.fraction_rows.specs.Turns.{AreTableLines}
+use Rattle.fraction_lines.specs.TableLines.{IsWideStep, nothing}
+use Rattle.fraction_lines.specs.Turns.{AreTableLines}
 use Rattle.fraction_table.specs.Tableaus.{IsShiftStep, Shift, moved_basis}
 use Rattle.fraction_table.specs.ValidTables.{HasRoom, members_of_box}
 

@@ -10,8 +10,8 @@ use Rattle.design_problem.specs.Steps.{IsStepTooWide, denominators, lcm_of, made
 use Rattle.fraction_table.specs.declared.stage.SimplexStop.{SimplexStop}
 use Rattle.fraction_table.specs.declared.stage.SimplexStop.TheVariants.{TooWide, OutOfMemory}
 use Rattle.fraction_table.specs.declared.table.Table.{Table}
-use Rattle.fraction_rows.specs.Entries.{IsPassing}
-use Rattle.fraction_rows.specs.TableLines.{IsTableNumber}
+use Rattle.fraction_lines.specs.Entries.{IsPassing}
+use Rattle.fraction_lines.specs.TableLines.{IsTableNumber}
 use Rattle.fraction_table.specs.Tableaus.{wide_at}
 
 -- fractions of a member, each with the row's number where the member is a row; none where it is a bound

@@ -7,9 +7,9 @@ use Rattle.design_problem.specs.declared.boxes.CostBox.{CostBox}
 use Rattle.design_problem.specs.Basis.{entry}
 use Rattle.design_problem.specs.Steps.{start_of_sum}
 use Rattle.fraction_table.specs.declared.table.Table.{Table}
-use Rattle.fraction_rows.specs.Entries.{IsPassing}
-use Rattle.fraction_rows.specs.Sums.{IsSumStep, sum_of_terms}
-use Rattle.fraction_rows.specs.TableLines.{AreTableNumbers, blank_line}
+use Rattle.fraction_lines.specs.Entries.{IsPassing}
+use Rattle.fraction_lines.specs.Sums.{IsSumStep, sum_of_terms}
+use Rattle.fraction_lines.specs.TableLines.{AreTableNumbers, blank_line}
 use Rattle.fraction_table.specs.Tableaus.{FitsBox}
 
 -- the sum of a form's terms at a place, by the lines of x - low for each variable

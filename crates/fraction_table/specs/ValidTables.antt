@@ -12,14 +12,14 @@ use Rattle.design_problem.specs.Forms.{no_form, value_for_costs}
 use Rattle.design_problem.specs.Boxes.{IsBox}
 use Rattle.design_problem.specs.Basis.{IsBasis, IsFormOf, IsMixture, LeadsPositive, entry, forms_of, low_member, member_form}
 use Rattle.design_problem.specs.Steps.{IsRefutingForm}
-use Rattle.fraction_rows.specs.TableLines.{AreTableNumbers}
+use Rattle.fraction_lines.specs.TableLines.{AreTableNumbers}
 use Rattle.fraction_table.specs.declared.table.Table.{Table}
 use Rattle.fraction_table.specs.declared.stage.Stage.{Stage}
 use Rattle.fraction_table.specs.declared.stage.Stage.TheVariants.{Open, Ended, Stopped}
 use Rattle.fraction_table.specs.declared.stage.Solved.TheVariants.{Feasible, Refuted}
 use Rattle.fraction_table.specs.Tableaus.{FitsBox, Held, IsGoing}
 
--- the sum of the rows' numbers at a place, each times the coefficient of its variable
+-- the sum of the lines' numbers at a place, each times the coefficient of its variable
 abbrev pub from_lows : List ℤ → List (List ℤ) → ℕ → ℤ
 from_lows [] rows place = pos 0
 from_lows (c ∷ cs) [] place = pos 0
@@ -34,7 +34,7 @@ number_of_form D low rows f (suc k) = from_lows f.coefficients rows (suc k)
 abbrev pub numbers_of_form : ℕ → ℕ → List ℕ → List (List ℤ) → Form → List ℤ
 numbers_of_form n D low rows f = map (number_of_form D low rows f) (numbers_from 0 (suc n))
 
--- each row has the length n
+-- each line has the length n
 abbrev pub AllLong : ℕ → List (List ℤ) → Type 0
 AllLong n rows = AllByRecursion (λ ts. length ts ≡ n) rows
 
@@ -113,14 +113,14 @@ IsTableau t = IsTableauOf t.top t.costs t.rows.items t.basis.items t.lines.items
 abbrev pub IsUnboxedTable : Table → Type 0
 IsUnboxedTable t = IsUnboxed t.top t.costs t.rows.items t.basis.items t.lines.items
 
--- the two rows in which a pivot works are as wide as the lines
+-- the two lines in which a pivot works are as wide as the others
 pub record HasRoom (t : Table) : Type 0 where
   pub few : length t.costs.low < 2 ^ 32
   pub quotients : length t.quotients ≡ suc (length t.costs.low)
   pub scratch : length t.scratch ≡ suc (length t.costs.low)
 
 -- Until a step stops it, a tableau's lines are the table of its box and rows at its basis; they show what it found. At
--- all times its basis is one of the box and the rows, and its two work rows are as wide as the lines.
+-- all times its basis is one of the box and the rows, and its two work lines are as wide as the others.
 pub record IsSound (t : Table) (stage : Stage) : Type 0 where
   pub tableau : IsGoing stage → IsTableau t
   pub shown : IsShown t.basis.items t.lines.items stage

@@ -3,16 +3,16 @@ ghost use Rattle.std.specs.Prelude.{◌≡◌, suc, ◌^◌, ◌<◌, ◌≤◌,
 ghost use Rattle.design_problem.specs.Forms.{value_for_costs};
 ghost use Rattle.design_problem.specs.Steps.{IsStepTooWide, start_of_sum};
 ghost use Rattle.fraction_table.specs.RowLines.{HasPlace, HoldsRow, HoldsSame, IsAddedLine, IsBlankLine, IsRowStep, sum_at_place};
-ghost use Rattle.fraction_rows.specs.Sums.{AreVariableLines};
-ghost use Rattle.fraction_rows.specs.TableLines.{IsTableNumber, blank_line};
+ghost use Rattle.fraction_lines.specs.Sums.{AreVariableLines};
+ghost use Rattle.fraction_lines.specs.TableLines.{IsTableNumber, blank_line};
 ghost use Rattle.fraction_table.specs.Tableaus.{FitsBox, wide_at};
-ghost use Rattle.fraction_rows.specs.Turns.{AreTableLines};
+ghost use Rattle.fraction_lines.specs.Turns.{AreTableLines};
 ghost use Rattle.fraction_table.specs.ValidTables.{HasRoom, IsTableau};
 
 use crate::table::Table;
 use cost_base::OutOfMemory;
 use design_problem::{CostBox, Form};
-use fraction_rows::{TableLine, sum_at, sum_lines};
+use fraction_lines::{TableLine, sum_at, sum_lines};
 use std::alloc::Global;
 use wide_fraction::{Frac, Top, Wide};
 

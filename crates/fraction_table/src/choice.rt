@@ -5,14 +5,14 @@ ghost use Rattle.whole_numbers.specs.Fractions.{IsLowest, divided};
 ghost use Rattle.wide_fraction.specs.Widths.{IsWithin};
 ghost use Rattle.design_problem.specs.Basis.{entry};
 ghost use Rattle.design_problem.specs.Steps.{IsPivot, IsStepTooWide};
-ghost use Rattle.fraction_rows.specs.TableLines.{AreTableNumbers};
-ghost use Rattle.fraction_rows.specs.Entries.{IsPassing};
+ghost use Rattle.fraction_lines.specs.TableLines.{AreTableNumbers};
+ghost use Rattle.fraction_lines.specs.Entries.{IsPassing};
 ghost use Rattle.fraction_table.specs.Pivots.{IsBestBelow, IsOrdered, entries_order, line_at};
 ghost use Rattle.fraction_table.specs.Tableaus.{wide_at};
 ghost use Rattle.fraction_table.specs.ValidTables.{HasRoom, IsTableau};
 
 use crate::table::Table;
-use fraction_rows::TableLine;
+use fraction_lines::TableLine;
 use std::cmp::Ordering;
 use wide_fraction::{Frac, Top, Wide, cmp, div, mul};
 

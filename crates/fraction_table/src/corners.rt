@@ -6,7 +6,7 @@ ghost use Rattle.design_problem.specs.Earnest.{IsLeastPoint};
 ghost use Rattle.design_problem.specs.Steps.{IsStepTooWide, lcm_of, two_to_27};
 ghost use Rattle.design_problem.specs.Forms.{AreMet};
 ghost use Rattle.fraction_table.specs.Corners.{corner_entry, denominators_of, raised_by};
-ghost use Rattle.fraction_rows.specs.Entries.{IsPassing};
+ghost use Rattle.fraction_lines.specs.Entries.{IsPassing};
 ghost use Rattle.fraction_table.specs.Pivots.{AreHigh};
 ghost use Rattle.fraction_table.specs.Tableaus.{wide_at};
 ghost use Rattle.fraction_table.specs.ValidTables.{IsTableau};

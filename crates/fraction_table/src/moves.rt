@@ -3,11 +3,11 @@ ghost use Rattle.std.specs.Prelude.{◌≡◌, ℕ, suc, ◌^◌, ◌<◌, lengt
 ghost use Rattle.fraction_table.specs.Moves.{HasBoundCounts, HasShape, IsColumnOf, IsMoved, IsRaiseStep, IsTableShifted, IsShiftedWide, IsWideShift, KeepsTableLines, RaisesWide};
 ghost use Rattle.fraction_table.specs.Moves.{ShiftsWide, high_shift_of, low_shift_of, put_at, raised_line, shifted_lines};
 ghost use Rattle.fraction_table.specs.Pivots.{KeepsBoxAndRows};
-ghost use Rattle.fraction_rows.specs.TableLines.{AreTableNumbers, IsTableNumber, IsWideStep};
-ghost use Rattle.fraction_rows.specs.Entries.{IsPassing};
+ghost use Rattle.fraction_lines.specs.TableLines.{AreTableNumbers, IsTableNumber, IsWideStep};
+ghost use Rattle.fraction_lines.specs.Entries.{IsPassing};
 ghost use Rattle.cost_base.specs.declared.StepName.TheVariants.{Sub};
 ghost use Rattle.whole_numbers.specs.Fractions.{minus};
-ghost use Rattle.fraction_rows.specs.Turns.{AreTableLines};
+ghost use Rattle.fraction_lines.specs.Turns.{AreTableLines};
 ghost use Rattle.fraction_table.specs.ValidTables.{HasRoom, IsUnboxedTable, held_of};
 ghost use Rattle.fraction_table.specs.Tableaus.{IsWideMove};
 ghost use Rattle.fraction_table.specs.declared.stage.Stage.TheVariants.{Open};
@@ -17,7 +17,7 @@ ghost use Rattle.design_problem.specs.Boxes.{with_high, with_low};
 use crate::start::range_of;
 use crate::table::Table;
 use design_problem::{CostBox, Member};
-use fraction_rows::TableLine;
+use fraction_lines::TableLine;
 use wide_fraction::{Frac, Top, Wide, add, mul, sub};
 
 /// Puts a line's entry in the column, times the fall, to its constant. No step is taken where the entry is 0.

@@ -5,7 +5,7 @@ ghost use Rattle.whole_numbers.specs.Fractions.{sum_of};
 ghost use Rattle.wide_fraction.specs.Widths.{IsWithin};
 ghost use Rattle.design_problem.specs.Boxes.{Refutes};
 ghost use Rattle.design_problem.specs.Steps.{IsRefutingForm, unless_zero};
-ghost use Rattle.fraction_rows.specs.Entries.{AllNumbers, IsPassing};
+ghost use Rattle.fraction_lines.specs.Entries.{AllNumbers, IsPassing};
 ghost use Rattle.fraction_table.specs.Multipliers.{AreParts, IsMultiplierStep, IsTallyStep, IsWideAtBasis, IsWideMultiplier, common_of};
 ghost use Rattle.fraction_table.specs.Multipliers.{fractions, fractions_of, numbered, whole_multipliers, wholes};
 ghost use Rattle.fraction_table.specs.Pivots.{line_at, member_at};
@@ -199,7 +199,7 @@ impl Table {
         Ok(parts)
     }
 
-    /// Whole multipliers of rows that refute the box, by a refuting line.
+    /// Whole multipliers of rows that refute the box, by a refuting form.
     ///
     /// # Errors
     ///

@@ -6,7 +6,7 @@ ghost use Rattle.design_problem.specs.Boxes.{IsBox};
 ghost use Rattle.design_problem.specs.Forms.{value_for_costs};
 ghost use Rattle.fraction_table.specs.Moves.{HasShape, KeepsAllButLines, KeepsTableLines};
 ghost use Rattle.fraction_table.specs.Pivots.{member_at};
-ghost use Rattle.fraction_rows.specs.TableLines.{AreTableNumbers};
+ghost use Rattle.fraction_lines.specs.TableLines.{AreTableNumbers};
 ghost use Rattle.fraction_table.specs.declared.stage.Stage.TheVariants.{Open};
 ghost use Rattle.fraction_table.specs.Tableaus.{FitsBox, IsRebased, starting};
 ghost use Rattle.fraction_table.specs.ValidTables.{HasRoom, IsTableau, held_of, members_of_box, starting_line};
@@ -16,7 +16,7 @@ use crate::start::{UnitForm, put_unit_line, range_of};
 use crate::table::Table;
 use cost_base::Listed;
 use design_problem::{CostBox, Form, Member};
-use fraction_rows::TableLine;
+use fraction_lines::TableLine;
 use wide_fraction::{Frac, Top};
 
 /// Makes the line the starting one of a row's form: its value at the low corner, and its coefficients.

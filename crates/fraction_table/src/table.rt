@@ -7,11 +7,11 @@ ghost use Rattle.fraction_table.specs.Tableaus.{wide_at};
 ghost use Rattle.fraction_table.specs.ValidTables.{HasRoom, IsTableau, members_of_box};
 
 use design_problem::{CostBox, Form, Member};
-use fraction_rows::{PivotColumn, TableLine, take_quotients, turn_rows};
+use fraction_lines::{PivotColumn, TableLine, take_quotients, turn_lines};
 use wide_fraction::{Top, Wide};
 
 /// A box with the forms of rows, at a basis, and the entries of each form of the box over that basis: those of x - low
-/// and then of high - x for each variable, and those of the rows. A pivot works in the last two rows, so that it takes
+/// and then of high - x for each variable, and those of the rows. A pivot works in the last two lines, so that it takes
 /// no memory.
 #[derive(Drop)]
 pub struct Table {
@@ -25,9 +25,9 @@ pub struct Table {
     pub basis: Vec<Member>,
     /// For each form of the box and the rows, its entries over the basis.
     pub lines: Vec<TableLine>,
-    /// Room for a pivot: the pivot's row over the pivot.
+    /// Room for a pivot: the pivot's line over the pivot.
     pub quotients: TableLine,
-    /// Room for a pivot: the row that is being turned.
+    /// Room for a pivot: the line that is being turned.
     pub scratch: TableLine,
 }
 
@@ -77,7 +77,7 @@ impl Table {
     {
         let member = self.member_at(line);
         let inverse = take_quotients(&self.lines[line], column, &mut self.quotients, self.top)?;
-        turn_rows(
+        turn_lines(
             self.lines.as_mut_slice(),
             &PivotColumn { column, inverse },
             &self.quotients,

@@ -15,7 +15,7 @@ use Rattle.integer_pivots.specs.Turns.{AreTurnedLines, IsTurnedLine, turn_at}
 use Rattle.integer_pivots.proofs.TurnLaws.{turn_level, turn_positive}
 use Rattle.integer_pivots.proofs.WrittenPlaces.{written_more}
 
--- a number of a row is the line's
+-- a number of a line's list is the line's
 pub row_number : (lines : List Line) (v c : ℕ) →
     number_at (slice_index_or (rows_of lines) v []) c ≡ number_at (slice_index_or lines v no_line).numbers c
 row_number lines v c = ap (λ zs. number_at zs c) (Rattle.std.proofs.Math.ListN.get_or-map (λ (line : Line). line.numbers) lines v no_line)

@@ -16,7 +16,7 @@ use Rattle.design_problem.specs.declared.tree.Member.TheVariants.{Low}
 use Rattle.design_problem.specs.Basis.{entry, member_form}
 use Rattle.design_problem.specs.Earnest.{IsLeastPoint}
 use Rattle.design_problem.specs.Forms.{AreMet}
-use Rattle.fraction_rows.proofs.RowLaws.{number_at as number_there}
+use Rattle.fraction_lines.proofs.TableLineLaws.{number_at as number_there}
 use Rattle.fraction_table.specs.Pivots.{AreHigh, line_at, numbers_of_line, member_at}
 use Rattle.fraction_table.proofs.Bases.{members_begin}
 use Rattle.fraction_table.proofs.CornerLeast.{corner_is_least}

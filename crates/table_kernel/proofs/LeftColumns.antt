@@ -308,6 +308,6 @@ none_best k latest left s are none c c_in =
     none_left : 0 < length left → ⊥
     none_left some = omega (arith, none, some)
 
--- a row for each line
+-- a list for each line
 pub rows_counted : (k : Kernel) (v : ℕ) → v < length k.lows.items → v < length (rows_of k.lows.items)
 rows_counted k v v_in = omega (arith, v_in, length-map k.lows.items (λ (l : Line). l.numbers))

@@ -6,8 +6,8 @@ use Rattle.cost_base.specs.Lists.{numbers_from}
 use Rattle.whole_numbers.specs.Fractions.{Fraction}
 use Rattle.whole_numbers.specs.Lists.{number_at}
 use Rattle.design_problem.specs.Basis.{entry}
-use Rattle.fraction_rows.specs.TableLines.{blank_line, nothing}
-use Rattle.fraction_rows.proofs.BlankLines.{blank_entry, blank_size, cleared_set}
+use Rattle.fraction_lines.specs.TableLines.{blank_line, nothing}
+use Rattle.fraction_lines.proofs.BlankLines.{blank_entry, blank_size, cleared_set}
 use Rattle.fraction_table.proofs.BetweenBoxes.{all_written, length-written, unwritten, written_next}
 use Rattle.table_kernel.specs.Numbers.{over_common}
 

@@ -130,7 +130,7 @@ module _ (k : Kernel) (place column : ℕ) (p : IsPivotIn k place column) where
     after_positive : 0 < nat_abs h.common
     after_positive = size_positive h.common t.positive
 
-    -- the new numbers over the old denominator and the pivot are the turned rows over the new one
+    -- the new numbers over the old denominator and the pivot are the turned lines over the new one
     rows_are : map (scaled_by (nat_abs k.common * nat_abs (number_at (place_numbers k place) (suc column)))) (lows_of h)
         ≡ map (scaled_by (nat_abs h.common)) (turned_rows (lows_of k) (place_numbers k place) (suc column) (nat_abs k.common))
     rows_are =

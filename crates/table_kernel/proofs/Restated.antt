@@ -10,8 +10,8 @@ use Rattle.whole_numbers.specs.Lists.{number_at}
 use Rattle.design_problem.specs.declared.tree.Member.{Member}
 use Rattle.design_problem.specs.declared.tree.Member.TheVariants.{Low}
 use Rattle.design_problem.specs.Basis.{IsFormOf, entry, member_form}
-use Rattle.fraction_rows.specs.TableLines.{blank_line, nothing}
-use Rattle.fraction_rows.proofs.BlankLines.{blank_size}
+use Rattle.fraction_lines.specs.TableLines.{blank_line, nothing}
+use Rattle.fraction_lines.proofs.BlankLines.{blank_size}
 use Rattle.fraction_table.specs.Pivots.{member_at}
 use Rattle.fraction_table.specs.ValidTables.{HasRoom, IsTableauOf, IsTableau, members_of_box, number_of_form, numbers_of_form}
 use Rattle.fraction_table.proofs.BetweenBoxes.{all_written, length-written, written_next}

@@ -10,7 +10,7 @@ use Rattle.design_problem.specs.Steps.{IsRefutingForm}
 use Rattle.fraction_table.specs.PivotForms.{NoneNegative, sign_at}
 use Rattle.fraction_table.specs.Pivots.{line_at}
 use Rattle.fraction_table.specs.ValidTables.{number_of_form}
-use Rattle.fraction_rows.proofs.RowLaws.{number_at as number_there}
+use Rattle.fraction_lines.proofs.TableLineLaws.{number_at as number_there}
 use Rattle.fraction_table.proofs.PivotForms.{none_high, pivot_among, pivot_negative}
 use Rattle.fraction_table.proofs.Pivots.{line_long, lines_long, members_long, whole_line}
 use Rattle.fraction_table.proofs.Solutions.{high_number, low_number, negative_number}

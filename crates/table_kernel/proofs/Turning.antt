@@ -106,7 +106,7 @@ turn_even y u =
     ∙ ap (λ z. q *ℤ z) (over-mul u g (div-mul_cancel g divides.1))
 
 -- A line's number x over d, and y at the pivot's column; the entering line's t and u over f; s and r are how often d
--- and the new line's e go into D and L. The number after the turn over L is that of the turned row over D and A.
+-- and the new line's e go into D and L. The number after the turn over L is that of the turned line over D and A.
 number_crossed : (d m f s r e x y t u T A q new : ℤ) → pos 0 <ℤ d → pos 0 <ℤ m → pos 0 <ℤ f →
     (t *ℤ (s *ℤ d)) ≡ (T *ℤ f) → (u *ℤ (s *ℤ d)) ≡ (A *ℤ f) → (m *ℤ y) ≡ (q *ℤ u) →
     (new *ℤ (d *ℤ m)) ≡ (((m *ℤ x) -ℤ (q *ℤ t)) *ℤ e) →
@@ -175,7 +175,7 @@ line_turned j entering old new long t zero place_in other = t.constant
 line_turned j entering old new long t (suc c) place_in other =
     t.others c (omega (arith, long, place_in)) (λ same. other (ap suc same))
 
--- a number of a turned line over L is that of the turned row over D and a
+-- a number of a turned line over L is that of the line over D and a, turned
 place_crossed : (D L a j : ℕ) (ts : List ℤ) (entering old new : Line) → EntersAt D a j ts entering →
     IsTurnedOver D L j entering old new → (place : ℕ) → place < length ts →
     ((line_number new place *ℤ pos (share_of L new)) *ℤ pos (D * a))

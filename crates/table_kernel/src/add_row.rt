@@ -1,6 +1,6 @@
 //! One more row: its form, and its constant at the present basis.
 ghost use Rattle.std.specs.Prelude.{◌≡◌, ◌^◌, ◌<◌, ◌≤◌, ◌↔◌, pos, ◌∷◌, [], ◌++◌, nat_abs, length, All, IfErr, IfOk, IsTrue, OnOk};
-ghost use Rattle.fraction_rows.specs.TableLines.{blank_line};
+ghost use Rattle.fraction_lines.specs.TableLines.{blank_line};
 ghost use Rattle.design_problem.specs.Steps.{IsStepTooWide};
 ghost use Rattle.fraction_table.specs.RowLines.{HoldsRow, HoldsSame};
 ghost use Rattle.fraction_table.specs.Tableaus.{FitsBox, wide_at};

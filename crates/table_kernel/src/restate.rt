@@ -2,7 +2,7 @@
 ghost use Rattle.std.specs.Prelude.{◌≡◌, ℕ, suc, ◌<◌, ◌≤◌, [], pos, ◌<ℤ◌, nat_abs, length, slice_index_or, slice_set};
 ghost use Rattle.whole_numbers.specs.Lists.{number_at};
 ghost use Rattle.design_problem.specs.Basis.{IsFormOf, entry, member_form};
-ghost use Rattle.fraction_rows.specs.TableLines.{IsTableNumber, blank_line, nothing};
+ghost use Rattle.fraction_lines.specs.TableLines.{IsTableNumber, blank_line, nothing};
 ghost use Rattle.fraction_table.specs.Pivots.{KeepsBoxAndRows};
 ghost use Rattle.fraction_table.specs.ValidTables.{HasRoom, IsTableau};
 ghost use Rattle.table_kernel.specs.Kernels.{IsKernel, kernel_lines, width_of};

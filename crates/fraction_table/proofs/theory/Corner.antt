@@ -44,7 +44,7 @@ refuting_negative r basis D m ms p is below low met scale_positive =
     (rw (one_value p)
     (sum_negative (m *ℤ pos p.scale) (mixed_at ms basis p) (negative_product m p.scale below scale_positive) (mixed_low ms basis p low met))))
 
--- the sum of a row's numbers, each times the one at its place
+-- the sum of a line's numbers, each times the one at its place
 abbrev pub row_sum : List ℤ → List ℕ → ℤ
 row_sum [] us = pos 0
 row_sum (t ∷ ts) [] = pos 0

@@ -10,7 +10,7 @@ use Rattle.whole_numbers.proofs.Ring.{var, num, ◌⊕◌, ◌⊗◌, neg, ring}
 use Rattle.design_problem.specs.declared.form.Form.{Form}
 use Rattle.design_problem.specs.Forms.{dot, value_for_costs}
 use Rattle.design_problem.specs.Basis.{AreEntries, coordinate, mixture, one_form, unit}
-use Rattle.fraction_rows.specs.TableLines.{AreTableNumbers}
+use Rattle.fraction_lines.specs.TableLines.{AreTableNumbers}
 use Rattle.fraction_table.specs.ValidTables.{number_of_form, numbers_of_form, AllLong, AreMixtures, low_forms, Stand}
 use Rattle.fraction_table.proofs.theory.Blends.{form_mixture}
 

@@ -80,7 +80,7 @@ high_value low rows v bound v_in =
 pub long_at : (n : ℕ) (lows : List (List ℤ)) (v : ℕ) → AllLong n lows → v < length lows → length (slice_index_or lows v []) ≡ n
 long_at n lows v long v_in = all_from_each (λ (ts : List ℤ). length ts ≡ n) lows long v [] v_in
 
--- the numbers of x - low are those of its row
+-- the numbers of x - low are those of its line
 pub low_numbers : (D : ℕ) (low : List ℕ) (lows : List (List ℤ)) (rows : List Form) (v : ℕ) → length low ≡ length lows →
     AllLong (suc (length low)) lows → v < length low →
     numbers_of_form (length low) D low lows (member_form (length low) rows (Low v (slice_index low v)))

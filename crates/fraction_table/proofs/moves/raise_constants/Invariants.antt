@@ -1,6 +1,6 @@
 -- The lines before the index are raised, and the others are as before.
 use Rattle.std.proofs.Common.{◌≡◌, ℕ, ◌++◌, map, take, drop}
-use Rattle.fraction_rows.specs.Turns.{AreTableLines}
+use Rattle.fraction_lines.specs.Turns.{AreTableLines}
 use Rattle.fraction_table.specs.Moves.{raised_line}
 use Rattle.fraction_table.proofs.moves.raise_constants.Given as goal
 

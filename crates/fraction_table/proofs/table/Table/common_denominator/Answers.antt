@@ -8,7 +8,7 @@ use Rattle.std.proofs.lemmas.Result.{err_from_is_err_and}
 use Rattle.whole_numbers.specs.Fractions.{Fraction}
 use Rattle.design_problem.specs.Steps.{lcm_of}
 use Rattle.fraction_table.specs.Corners.{denominators_of}
-use Rattle.fraction_rows.specs.Entries.{IsPassing}
+use Rattle.fraction_lines.specs.Entries.{IsPassing}
 use Rattle.fraction_table.proofs.MultiplierSteps.{read_back}
 use Rattle.fraction_table.proofs.Pivots.{lines_long}
 use Rattle.fraction_table.proofs.CornerScales.{constant_read, denominator_within, denominators_long, multiple_more, multiple_wide, taken_positive, top_bounds}

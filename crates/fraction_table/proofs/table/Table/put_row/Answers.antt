@@ -1,7 +1,7 @@
 -- The table is whole with the row and its line; a step that stopped the line is too wide.
 use Rattle.std.proofs.Common.{suc, ◌∙◌, ap, sym, subst, [], ◌∷◌, ◌++◌, length, arith}
 use Rattle.design_problem.specs.declared.form.Form.{Form}
-use Rattle.fraction_rows.specs.Turns.{AreTableLines}
+use Rattle.fraction_lines.specs.Turns.{AreTableLines}
 use Rattle.fraction_table.proofs.Bases.{table_long}
 use Rattle.fraction_table.proofs.Pivots.{whole_rows}
 use Rattle.fraction_table.proofs.RowLines.{put_whole, put_wide}
@@ -11,7 +11,7 @@ pub fill_line-filled-requires-clause-lines : goal.fill_line-filled-requires-clau
 fill_line-filled-requires-clause-lines c =
     let t = c.args.self.now in
     record {
-      rows = subst (AreTableLines t.top (suc (length t.costs.low))) (sym c.as_slice-lines.ensures.value) (whole_rows t c.requires.tableau);
+      fit = subst (AreTableLines t.top (suc (length t.costs.low))) (sym c.as_slice-lines.ensures.value) (whole_rows t c.requires.tableau);
       many = omega (
         arith,
         ap length c.as_slice-lines.ensures.value,

@@ -3,7 +3,7 @@ use Rattle.std.proofs.Common.{◌≡◌, ℕ, suc, ◌∙◌, ap, sym, subst, le
 use Rattle.std.proofs.lemmas.List.{with_items_is}
 use Rattle.design_problem.specs.declared.boxes.CostBox.{CostBox}
 use Rattle.design_problem.specs.Boxes.{IsBox}
-use Rattle.fraction_rows.specs.Turns.{AreTableLines}
+use Rattle.fraction_lines.specs.Turns.{AreTableLines}
 use Rattle.fraction_table.proofs.Restarts.{bounds_are, members_same, restarted, starting_many}
 use Rattle.fraction_table.proofs.table.Table.restart.Goals as goal
 

@@ -6,10 +6,10 @@ use Rattle.std.proofs.lemmas.List.{with_items_is}
 use Rattle.std.proofs.lemmas.Result.{err_from_is_err_and}
 use Rattle.whole_numbers.specs.Fractions.{Fraction, whole}
 use Rattle.design_problem.specs.declared.tree.Member.{Member}
-use Rattle.fraction_rows.specs.TableLines.{IsTableNumber}
-use Rattle.fraction_rows.specs.Turns.{AreTableLines}
+use Rattle.fraction_lines.specs.TableLines.{IsTableNumber}
+use Rattle.fraction_lines.specs.Turns.{AreTableLines}
 use Rattle.fraction_table.specs.Moves.{IsColumnOf, ShiftsWide, shifted_lines}
-use Rattle.fraction_rows.proofs.SmallNumbers.{whole_number}
+use Rattle.fraction_lines.proofs.SmallNumbers.{whole_number}
 use Rattle.fraction_table.proofs.MoveLines.{column_in, column_there, length-put}
 use Rattle.fraction_table.proofs.table.Table.shift.Goals.{After-shift_lines}
 use Rattle.fraction_table.proofs.table.Table.shift.Goals as goal

@@ -3,7 +3,7 @@ use Rattle.std.proofs.Common.{◌≡◌, ◌^◌, ◌≤◌, ◌∙◌, arith, l
 use Rattle.std.specs.Prelude.{ℤ, pos, ◌<ℤ◌, ◌≤ℤ◌, ◌*ℤ◌, ◌+ℤ◌, nat_abs}
 use Rattle.whole_numbers.specs.Lists.{number_at}
 use Rattle.design_problem.specs.Forms.{value_for_costs}
-use Rattle.fraction_rows.proofs.BlankLines.{blank_long}
+use Rattle.fraction_lines.proofs.BlankLines.{blank_long}
 use Rattle.fraction_table.proofs.Pivots.{members_long}
 use Rattle.integer_pivots.specs.Numbers.{product_sum}
 use Rattle.integer_pivots.specs.Uses.{HaveRoom}
