@@ -53,7 +53,7 @@ fn status_of(outcome: &Outcome) -> Status
 }
 
 /// The requests of a problem. For the prover: a call, so that the caller's goals have this part alone.
-fn paths_of(problem: &Problem) -> &[Request]
+fn requests_of(problem: &Problem) -> &[Request]
     ensures { result.now ≡ problem.now.requests }
 {
     problem.requests.as_slice()
@@ -78,7 +78,7 @@ fn steps_of_moves(
         }) nodes) }
 {
     let graph = priced_by_links(alloc, &network.lsdb)?;
-    let steps = find_steps(alloc, &graph, paths_of(&network.problem), moves, nodes);
+    let steps = find_steps(alloc, &graph, requests_of(&network.problem), moves, nodes);
     // For the prover alone: a call drops the graph, so that its parts' drops aren't written out at each exit.
     drop(graph);
     steps
