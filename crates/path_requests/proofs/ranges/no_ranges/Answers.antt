@@ -2,7 +2,7 @@ use Rattle.std.proofs.Common.{◌≡◌, ◌∙◌, ap, length, replicate, sym, 
 use Rattle.cost_base.proofs.FillLaws.{map_same}
 use Rattle.lsdb_build.specs.declared.Linked.{Linked}
 use Rattle.path_requests.specs.declared.ranges.Range.{Range}
-use Rattle.path_requests.proofs.ranges.undecided.Goals as goal
+use Rattle.path_requests.proofs.ranges.no_ranges.Goals as goal
 
 pub returns : goal.returns
 returns c =
