@@ -21,32 +21,32 @@ use Rattle.input_files.specs.Inputs.{InputFiles}
 use Rattle.input_files.specs.Outcomes.{Input, file_read, longest_answer, outcome}
 use Rattle.input_files.specs.Readings.{Reading, Ready, ◌>>=◌}
 
--- what is to go live: the network at present, and the bytes of a text with the wanted costs
-pub record Plan : Type 0 where
+-- what `steps` is handed: the network at present, and the bytes of a text with the wanted costs
+pub record StepsInput : Type 0 where
   pub input : Input
   pub bytes : List ℕ
 
 -- what the files of `steps` say, read in their order: those of an audit, and then the text with the costs
-abbrev pub plan_read : InputFiles → List ℕ → Reading Plan
-plan_read names answer =
+abbrev pub steps_read : InputFiles → List ℕ → Reading StepsInput
+steps_read names answer =
     outcome AtPresent names >>= λ d.
     file_read longest_answer answer >>= λ bytes.
     Ready (record { input = d; bytes = bytes })
 
 -- what the text with the costs says behind the files of an audit. No public clause cites it
-abbrev pub plan_with : List ℕ → Input → Reading Plan
-plan_with answer d = file_read longest_answer answer >>= λ bytes. Ready (record { input = d; bytes = bytes })
+abbrev pub steps_with : List ℕ → Input → Reading StepsInput
+steps_with answer d = file_read longest_answer answer >>= λ bytes. Ready (record { input = d; bytes = bytes })
 
 -- the network is one at present costs: they are above 0, and its problem is the one that they make
 pub record IsAtPresent (network : Network) : Type 0 where
   pub above : All (λ cost. 0 < cost) (present_of_links network.request_file network.lsdb)
   pub problem : network.problem ≡ present_problem_of network.request_file network.lsdb
 
--- the plan's network has these requests, this database and this problem
-pub record IsPlanOf (network : Network) (plan : Plan) : Type 0 where
-  pub request_file : network.request_file ≡ plan.input.asked
-  pub lsdb : network.lsdb ≡ plan.input.database
-  pub problem : network.problem ≡ plan.input.problem
+-- the network has the requests, the database and the problem of what `steps` was handed
+pub record IsStepsInputOf (network : Network) (handed : StepsInput) : Type 0 where
+  pub request_file : network.request_file ≡ handed.input.asked
+  pub lsdb : network.lsdb ≡ handed.input.database
+  pub problem : network.problem ≡ handed.input.problem
 
 -- the number of the linked interface that a cost line names
 abbrev pub link_of_line : Database → CostLine → ℕ

@@ -23,7 +23,7 @@ use Rattle.change_steps.specs.Rollouts.{AreMoves, IsInterfaceCost}
 use Rattle.command_words.specs.declared.job.StepUnit.{StepUnit}
 use Rattle.command_words.specs.declared.job.StepUnit.TheVariants as unit
 use Rattle.change_commands.specs.SeenLinks.{AreSeen}
-use Rattle.change_commands.specs.Plans.{first_fault_after, first_line_fault, if_some, is_moved, or_first, link_of_line, links_of_router, line_fault, moved_links, moves_between, router_steps, steps_of, with_lines}
+use Rattle.change_commands.specs.WantedMoves.{first_fault_after, first_line_fault, if_some, is_moved, or_first, link_of_line, links_of_router, line_fault, moved_links, moves_between, router_steps, steps_of, with_lines}
 
 -- One line.
 

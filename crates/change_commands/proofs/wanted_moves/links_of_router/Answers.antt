@@ -1,6 +1,6 @@
 use Rattle.std.proofs.Common.{refl}
-use Rattle.change_commands.proofs.PlanLaws.{router_link_more}
-use Rattle.change_commands.proofs.plan.links_of_router.Goals as goal
+use Rattle.change_commands.proofs.WantedMoveLaws.{router_link_more}
+use Rattle.change_commands.proofs.wanted_moves.links_of_router.Goals as goal
 
 pub loop-link-preserved : goal.loop-link-preserved
 loop-link-preserved c =

@@ -1,6 +1,6 @@
 -- Line by line: none is taken at first, and in the end all are.
-use Rattle.change_commands.proofs.PlanLaws.{all_taken, line_refused, line_taken, none_taken}
-use Rattle.change_commands.proofs.plan.wanted_costs.Goals as goal
+use Rattle.change_commands.proofs.WantedMoveLaws.{all_taken, line_refused, line_taken, none_taken}
+use Rattle.change_commands.proofs.wanted_moves.wanted_costs.Goals as goal
 
 pub loop-line-init : goal.loop-line-init
 loop-line-init c =

@@ -1,7 +1,7 @@
 use Rattle.std.proofs.Common.{◌∙◌, ap}
 use Rattle.std.proofs.lemmas.Result.{IfOk-weaker}
-use Rattle.change_commands.specs.Plans.{steps_of}
-use Rattle.change_commands.proofs.plan.steps_between.Goals as goal
+use Rattle.change_commands.specs.WantedMoves.{steps_of}
+use Rattle.change_commands.proofs.wanted_moves.steps_between.Goals as goal
 
 pub returns : goal.returns
 returns c =

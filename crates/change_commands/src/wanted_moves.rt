@@ -1,8 +1,8 @@
 //! The steps that the cost lines of a text make of the present costs.
 ghost use Rattle.std.specs.Prelude.{◌≡◌, ℕ, ◌<◌, ◌≤◌, ◌++◌, true, List, [], ◌∷◌, None, Some, length, map, slice_index, slice_set, All, IfOk, OnOk, MatchResult};
 ghost use Rattle.std.specs.List.{cons_option};
-ghost use Rattle.change_commands.specs.Plans.{first_line_fault, if_some, line_fault, link_of_line, links_of_router, moved_links, moves_between};
-ghost use Rattle.change_commands.specs.Plans.{router_steps, steps_of, with_lines};
+ghost use Rattle.change_commands.specs.WantedMoves.{first_line_fault, if_some, line_fault, link_of_line, links_of_router, moved_links, moves_between};
+ghost use Rattle.change_commands.specs.WantedMoves.{router_steps, steps_of, with_lines};
 ghost use Rattle.change_commands.specs.SeenLinks.{AreSeen};
 ghost use Rattle.cost_base.specs.Lists.{numbers_from};
 
@@ -15,7 +15,7 @@ use std::alloc::Global;
 use wanted_paths::Names;
 
 /// Puts a line's cost into the place of its link, and marks that; or tells what is wrong with the line.
-#[tactic(auto, using(crate::proofs::PlanLaws::line_faults))]
+#[tactic(auto, using(crate::proofs::WantedMoveLaws::line_faults))]
 fn take_line(
     names: &Names,
     line: &CostLine,

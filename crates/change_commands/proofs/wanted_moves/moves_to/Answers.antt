@@ -1,7 +1,7 @@
 use Rattle.std.proofs.Common.{◌≡◌, ◌∙◌, sym, ap, List, ℕ}
-use Rattle.change_commands.specs.Plans.{moved_links, steps_of}
-use Rattle.change_commands.proofs.PlanLaws.{moves_kept, most_as}
-use Rattle.change_commands.proofs.plan.moves_to.Goals as goal
+use Rattle.change_commands.specs.WantedMoves.{moved_links, steps_of}
+use Rattle.change_commands.proofs.WantedMoveLaws.{moves_kept, most_as}
+use Rattle.change_commands.proofs.wanted_moves.moves_to.Goals as goal
 
 pub invariant_of-result : goal.invariant_of-result
 invariant_of-result c =

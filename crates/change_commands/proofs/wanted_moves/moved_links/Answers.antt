@@ -1,6 +1,6 @@
 use Rattle.cost_base.proofs.ListLemmas.{filter-numbers_from-push}
-use Rattle.change_commands.specs.Plans.{is_moved}
-use Rattle.change_commands.proofs.plan.moved_links.Goals as goal
+use Rattle.change_commands.specs.WantedMoves.{is_moved}
+use Rattle.change_commands.proofs.wanted_moves.moved_links.Goals as goal
 
 pub loop-link-preserved : goal.loop-link-preserved
 loop-link-preserved c =

@@ -1,5 +1,5 @@
-use Rattle.change_commands.proofs.PlanLaws.{router_more}
-use Rattle.change_commands.proofs.plan.steps_by_router.Goals as goal
+use Rattle.change_commands.proofs.WantedMoveLaws.{router_more}
+use Rattle.change_commands.proofs.wanted_moves.steps_by_router.Goals as goal
 
 pub loop-router-preserved : goal.loop-router-preserved
 loop-router-preserved c =
