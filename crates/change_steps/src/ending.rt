@@ -6,7 +6,7 @@ ghost use Rattle.change_steps.specs.Rollouts.{step_count};
 ghost use Rattle.change_steps.specs.Orders.{IsSafe};
 ghost use Rattle.change_steps.specs.States.{MayFollow};
 ghost use Rattle.change_steps.specs.Outcomes.{IsBarrier, IsOutcome, IsSearchEnd};
-ghost use Rattle.change_steps.specs.Search.{AreBlockedIn, IsStateOf, IsStepBlocked, last_steps, order_behind_first as way_of};
+ghost use Rattle.change_steps.specs.Search.{AreBlockedIn, IsStateOf, IsStepBlocked, last_steps, order_behind_first};
 ghost use Rattle.change_steps.specs.Walks.{IsWalkEnded, IsSearchWalk};
 
 use crate::found::{Barrier, Blocked, Outcome, Stuck};
@@ -20,21 +20,25 @@ use spf_ties::Room;
 use std::alloc::Global;
 
 /// The first steps, and some steps behind them.
-fn line_of(alloc: Global, plan: &Plan, between: &[usize]) -> Result<Vec<usize>, OutOfMemory>
-    ensures { IfOk result (λ line. line.items ≡ way_of plan.now between.now) }
+fn order_behind_first(
+    alloc: Global,
+    plan: &Plan,
+    between: &[usize],
+) -> Result<Vec<usize>, OutOfMemory>
+    ensures { IfOk result (λ order. order.items ≡ order_behind_first plan.now between.now) }
 {
-    let mut line = Vec::new(alloc);
-    plan.put_steps(&mut line, Kind::First)?;
-    line.extend_from_slice(between)?;
-    Ok(line)
+    let mut order = Vec::new(alloc);
+    plan.put_steps(&mut order, Kind::First)?;
+    order.extend_from_slice(between)?;
+    Ok(order)
 }
 
 /// The first steps, some steps behind them, and the last steps.
 fn order_of(alloc: Global, plan: &Plan, between: &[usize]) -> Result<Vec<usize>, OutOfMemory>
-    ensures { IfOk result (λ order. order.items ≡ way_of plan.now between.now ++
+    ensures { IfOk result (λ order. order.items ≡ order_behind_first plan.now between.now ++
         last_steps plan.now) }
 {
-    let mut order = line_of(alloc, plan, between)?;
+    let mut order = order_behind_first(alloc, plan, between)?;
     plan.put_steps(&mut order, Kind::Last)?;
     Ok(order)
 }
@@ -122,7 +126,7 @@ fn stuck_of(alloc: Global, plan: &Plan, walk: &mut Walk) -> Result<Stuck, OutOfM
     requires { IsSearchWalk plan.now walk.old }
     ensures { IfOk result (IsSearchEnd plan.now.rollout plan.now.held walk.old.tested) }
 {
-    let done = line_of(alloc, plan, &walk.greatest)?;
+    let done = order_behind_first(alloc, plan, &walk.greatest)?;
     let mut state = State::after(alloc, plan.rollout(), &done)?;
     let blocked = blocked_in(alloc, plan, &walk.tested, &mut walk.room, &mut state)?;
     Ok(Stuck { done, blocked })
