@@ -27,7 +27,7 @@ use Rattle.change_steps.proofs.MarkLaws.{done_count_of, marks_at, marks_push}
 use Rattle.change_steps.proofs.OrderLaws.{line_ends, passes_that, that_passes}
 use Rattle.change_steps.proofs.NoOrder.{no_order}
 use Rattle.change_steps.proofs.Counting.{budget_short}
-use Rattle.change_steps.proofs.PlanLaws.{passing_no, passing_yes}
+use Rattle.change_steps.proofs.HeldRolloutLaws.{passing_no, passing_yes}
 
 -- All steps between are done.
 
@@ -173,7 +173,7 @@ budget_used_up p nodes w stuck is used_up another end = (
   budget_short p.rollout p.held w.tested nodes is.walk.search.are used_up another,
 )
 
--- a plan's outcome is one of the rollout
+-- the outcome of a held rollout is one of its rollout
 pub steps_found : (q r : Rollout) (held : List ℕ) (nodes : ℕ) (steps : Steps) → q ≡ r → AreHeld q held → IsOutcome q held nodes steps.outcome →
     steps.held.items ≡ held → AreStepsFound r nodes steps
 steps_found q r held nodes steps same are outcome held_is = subst (λ (x : Rollout). AreStepsFound x nodes steps) same (record {

@@ -30,8 +30,8 @@ pub record HeldRollout : Type 0 where
   pub rollout : Rollout
   pub held : List ℕ
 
--- what a plan keeps: the held paths, the kind of each step, and what the steps may take from the held paths
-pub record IsPlan (p : HeldRollout) (kinds : List Kind) (reach : Reach) : Type 0 where
+-- what a held rollout keeps: the held paths, the kind of each step, and what the steps may take from the held paths
+pub record IsHeldRollout (p : HeldRollout) (kinds : List Kind) (reach : Reach) : Type 0 where
   pub rollout : IsRollout p.rollout
   pub held : AreHeld p.rollout p.held
   pub same : kinds ≡ map (kind_of_step p.rollout p.held) (numbers_from 0 (step_count p.rollout))

@@ -4,7 +4,7 @@ use Rattle.change_steps.specs.Rollouts.{IsRollout, Rollout}
 use Rattle.change_steps.specs.Search.{HeldRollout}
 use Rattle.change_steps.specs.Reaches.{IsHarmless, edges_of_step}
 use Rattle.change_steps.proofs.ReachLaws.{harmless_only}
-use Rattle.change_steps.proofs.held_rollout.Plan.spares.Goals as goal
+use Rattle.change_steps.proofs.held_rollout.HeldRollout.spares.Goals as goal
 
 pub returns : goal.returns
 returns c = λ spared before more only.

@@ -1,7 +1,7 @@
 use Rattle.std.proofs.Common.{◌≡◌, ◌++◌, filter}
 use Rattle.cost_base.specs.Lists.{numbers_from}
 use Rattle.change_steps.specs.Kinds.{has_kind, kind_of_step}
-use Rattle.change_steps.proofs.held_rollout.Plan.put_steps.Given as goal
+use Rattle.change_steps.proofs.held_rollout.HeldRollout.put_steps.Given as goal
 
 abbrev pub invariant-loop-step : goal.invariant-loop-step
 invariant-loop-step l =

@@ -1,6 +1,6 @@
 use Rattle.std.proofs.Common.{◌∙◌, arith, sym}
 use Rattle.change_steps.proofs.MarkedLaws.{follows_by, none_follow_more}
-use Rattle.change_steps.proofs.held_rollout.Plan.first_left.Goals as goal
+use Rattle.change_steps.proofs.held_rollout.HeldRollout.first_left.Goals as goal
 
 pub loop-step-preserved : goal.loop-step-preserved
 loop-step-preserved c =

@@ -1,4 +1,4 @@
--- What a plan tells of its steps.
+-- What a held rollout tells of its steps.
 use Rattle.std.proofs.Common.{◌≡◌, ℕ, ◌+◌, ◌<◌, sym, ◌∙◌, ap, List, [], ◌∷◌, ◌++◌, length, get_or, filter, arith, Bool, true, false, cond, append-nil, append_assoc, zero-add}
 use Rattle.std.proofs.lemmas.List.Elements.{filter-append}
 use Rattle.cost_base.specs.Lists.{numbers_from}
@@ -8,16 +8,16 @@ use Rattle.change_steps.specs.declared.reach.Reach.{Reach}
 use Rattle.change_steps.specs.declared.kinds.Kind.TheVariants.{Between}
 use Rattle.change_steps.specs.Rollouts.{step_count}
 use Rattle.change_steps.specs.Kinds.{kind_of_step}
-use Rattle.change_steps.specs.Search.{HeldRollout, IsPlan}
+use Rattle.change_steps.specs.Search.{HeldRollout, IsHeldRollout}
 
-pub kind_known : (q p : HeldRollout) (kinds read : List Kind) (reach : Reach) (step : ℕ) → IsPlan q kinds reach → q ≡ p → read ≡ kinds →
+pub kind_known : (q p : HeldRollout) (kinds read : List Kind) (reach : Reach) (step : ℕ) → IsHeldRollout q kinds reach → q ≡ p → read ≡ kinds →
     step < step_count p.rollout → step < length read
 kind_known q p kinds read reach step is same read_is known =
     let count = ap length (read_is ∙ is.same) ∙ length-map-numbers_from (kind_of_step q.rollout q.held) 0 (step_count q.rollout) in
     let steps = ap (λ (x : HeldRollout). step_count x.rollout) same in
     omega (arith, count, steps, known)
 
-pub kind_is : (q p : HeldRollout) (kinds read : List Kind) (reach : Reach) (step : ℕ) → IsPlan q kinds reach → q ≡ p → read ≡ kinds →
+pub kind_is : (q p : HeldRollout) (kinds read : List Kind) (reach : Reach) (step : ℕ) → IsHeldRollout q kinds reach → q ≡ p → read ≡ kinds →
     step < step_count p.rollout → get_or read step Between ≡ kind_of_step p.rollout p.held step
 kind_is q p kinds read reach step is same read_is known =
     let steps = ap (λ (x : HeldRollout). step_count x.rollout) same in

@@ -1,6 +1,6 @@
 use Rattle.std.proofs.Common.{◌∙◌}
-use Rattle.change_steps.proofs.PlanLaws.{kind_is, kind_known}
-use Rattle.change_steps.proofs.held_rollout.Plan.kind.Goals as goal
+use Rattle.change_steps.proofs.HeldRolloutLaws.{kind_is, kind_known}
+use Rattle.change_steps.proofs.held_rollout.HeldRollout.kind.Goals as goal
 
 pub kind_at-requires : goal.kind_at-requires
 kind_at-requires c =

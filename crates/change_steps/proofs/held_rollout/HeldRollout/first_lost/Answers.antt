@@ -7,7 +7,7 @@ use Rattle.change_steps.specs.Rollouts.{Rollout}
 use Rattle.change_steps.specs.Orders.{IsOnlyIn}
 use Rattle.change_steps.specs.Outcomes.{IsFirstLost}
 use Rattle.change_steps.proofs.MarkedLaws.{lost_at}
-use Rattle.change_steps.proofs.held_rollout.Plan.first_lost.Goals as goal
+use Rattle.change_steps.proofs.held_rollout.HeldRollout.first_lost.Goals as goal
 
 pub returns-then-not-is_only-clause-lost : goal.returns-then-not-is_only-clause-lost
 returns-then-not-is_only-clause-lost c =

@@ -4,8 +4,8 @@ use Rattle.cost_base.specs.Marks.{is_marked}
 use Rattle.spf_ties.specs.Distances.{Findings, IsRoomFor}
 use Rattle.change_steps.specs.Rollouts.{Rollout}
 use Rattle.change_steps.specs.Orders.{IsOnlyIn}
-use Rattle.change_steps.proofs.held_rollout.Plan.is_safe_after.Goals as goal
-use Rattle.change_steps.proofs.held_rollout.Plan.is_safe_after.Goals.{else-not-spares-via-then-not-spares+else-not-is_only, else-not-spares-via-else-not-spares}
+use Rattle.change_steps.proofs.held_rollout.HeldRollout.is_safe_after.Goals as goal
+use Rattle.change_steps.proofs.held_rollout.HeldRollout.is_safe_after.Goals.{else-not-spares-via-then-not-spares+else-not-is_only, else-not-spares-via-else-not-spares}
 
 pub loop-number-preserved : goal.loop-number-preserved
 loop-number-preserved c = elim c.else-not-spares.branch [

@@ -1,8 +1,8 @@
 use Rattle.std.proofs.Common.{◌∙◌, ◌++◌, ℕ, ap, append-nil, arith, filter, sym}
 use Rattle.cost_base.specs.Lists.{numbers_from}
 use Rattle.change_steps.specs.Kinds.{has_kind, kind_of_step}
-use Rattle.change_steps.proofs.PlanLaws.{kept_more}
-use Rattle.change_steps.proofs.held_rollout.Plan.put_steps.Goals as goal
+use Rattle.change_steps.proofs.HeldRolloutLaws.{kept_more}
+use Rattle.change_steps.proofs.held_rollout.HeldRollout.put_steps.Goals as goal
 
 pub loop-step-init : goal.loop-step-init
 loop-step-init c = sym (append-nil c.args.steps.now.items)
