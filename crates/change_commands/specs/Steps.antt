@@ -17,7 +17,7 @@ use Rattle.change_steps.specs.declared.found.Stuck.{Stuck}
 use Rattle.change_steps.specs.declared.found.Outcome.{Outcome}
 use Rattle.change_steps.specs.declared.found.Outcome.TheVariants.{Order, NoOrder, Undecided}
 use Rattle.change_steps.specs.declared.found.Steps.{Steps}
-use Rattle.change_steps.specs.Rollouts.{CostMoves, Rollout, lines_of_step}
+use Rattle.change_steps.specs.Rollouts.{CostMoves, Rollout, variables_of_step}
 use Rattle.change_steps.specs.Outcomes.{AreStepsFound}
 use Rattle.command_words.specs.declared.job.StepUnit.{StepUnit}
 use Rattle.command_words.specs.declared.job.StepUnit.TheVariants as unit
@@ -32,7 +32,7 @@ use Rattle.change_commands.specs.WantedMoves.{StepsInput, first_line_fault, move
 
 -- the number of the first link of a step
 abbrev pub link_of_step : CostMoves → ℕ → ℕ
-link_of_step m k = slice_index (lines_of_step m k) 0
+link_of_step m k = slice_index (variables_of_step m k) 0
 
 -- the words that name a step: `ROUTER INTERFACE`, or `ROUTER`
 abbrev pub step_name : StepUnit → Database → CostMoves → ℕ → List (List ℕ)
@@ -43,7 +43,7 @@ step_name unit.Router d m k = link_router d (link_of_step m k) ∷ []
 abbrev pub step_words : StepUnit → CostMoves → ℕ → List (List ℕ)
 step_words unit.Line m k =
     decimal (slice_index m.present (link_of_step m k)) ∷ decimal (slice_index m.wanted (link_of_step m k)) ∷ []
-step_words unit.Router m k = decimal (length (lines_of_step m k)) ∷ []
+step_words unit.Router m k = decimal (length (variables_of_step m k)) ∷ []
 
 -- the line of a step: `step I ROUTER INTERFACE OLD NEW` or `step I ROUTER COUNT`, where I counts the lines from 0
 abbrev pub step_line : StepUnit → Database → CostMoves → ℕ → ℕ → List ℕ

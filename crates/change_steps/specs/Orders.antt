@@ -6,7 +6,7 @@ use Rattle.cost_base.specs.Lists.{NoneTwice, numbers_from}
 use Rattle.cost_base.specs.Marks.{is_one_of}
 use Rattle.area_graph.specs.Costs.{IsOnlyCheapest, at_costs}
 use Rattle.design_problem.specs.Problems.{request_at, request_ends}
-use Rattle.change_steps.specs.Rollouts.{CostMoves, Rollout, lines_of_step, step_count}
+use Rattle.change_steps.specs.Rollouts.{CostMoves, Rollout, variables_of_step, step_count}
 
 -- A state says of each step whether it is done.
 
@@ -20,7 +20,7 @@ all_done k = true
 
 -- whether a step that is done changes the variable
 unfoldable pub is_changed : CostMoves → (ℕ → Bool) → ℕ → Bool
-is_changed m done v = list_any (λ k. done k && is_one_of (lines_of_step m k) v) (numbers_from 0 (length m.steps))
+is_changed m done v = list_any (λ k. done k && is_one_of (variables_of_step m k) v) (numbers_from 0 (length m.steps))
 
 -- the cost of a variable in a state: the wanted one where a step that is done changes it, else the present one
 unfoldable pub cost_in : CostMoves → (ℕ → Bool) → ℕ → ℕ

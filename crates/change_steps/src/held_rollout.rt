@@ -5,7 +5,7 @@ ghost use Rattle.cost_base.specs.Lists.{numbers_from};
 ghost use Rattle.cost_base.specs.Marks.{is_marked};
 ghost use Rattle.spf_ties.specs.Distances.{IsRoomFor};
 ghost use Rattle.design_problem.specs.Problems.{request_at};
-ghost use Rattle.change_steps.specs.Rollouts.{IsRollout, lines_of_step, step_count};
+ghost use Rattle.change_steps.specs.Rollouts.{IsRollout, variables_of_step, step_count};
 ghost use Rattle.change_steps.specs.Orders.{AreHeld, IsSafe, IsOnlyIn};
 ghost use Rattle.change_steps.specs.Kinds.{comes_between, goes_over, has_kind, kind_of_step};
 ghost use Rattle.change_steps.specs.States.{MayFollow};
