@@ -47,13 +47,13 @@ pub record AreHeld (r : Rollout) (held : List ℕ) : Type 0 where
 abbrev pub IsSafe : Rollout → List ℕ → (ℕ → Bool) → Type 0
 IsSafe r held done = All (IsOnlyIn r done) held
 
--- the steps of a list are steps of the rollout, none twice, and the state of each of its beginnings is safe
-pub record IsSafeLine (r : Rollout) (held order : List ℕ) : Type 0 where
+-- how a safe order may begin: steps of the rollout, none twice, and the state of each of their beginnings is safe
+pub record IsSafeBeginning (r : Rollout) (held order : List ℕ) : Type 0 where
   pub known : All (λ k. k < step_count r) order
   pub once : NoneTwice order
   pub safe : (n : ℕ) → n ≤ length order → IsSafe r held (is_one_of (take n order))
 
 -- an order of all steps, each once, in which the state of each beginning is safe
 pub record IsSafeOrder (r : Rollout) (held order : List ℕ) : Type 0 where
-  pub line : IsSafeLine r held order
+  pub beginning : IsSafeBeginning r held order
   pub all : (k : ℕ) → k < step_count r → Contains order k
