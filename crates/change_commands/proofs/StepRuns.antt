@@ -34,8 +34,8 @@ use Rattle.report_writer.specs.Reports.{Reports, bytes_in}
 use Rattle.report_writer.specs.Texts.{rejected_line}
 use Rattle.sections_reader.specs.declared.fault.CostsFault.{CostsFault}
 use Rattle.sections_reader.specs.FaultNumbers.{costs_fault_number}
-use Rattle.change_commands.specs.Plans.{IsAtPresent, IsPlanOf, Plan, first_line_fault, moves_between, moves_of, rollout_of, wanted_costs_in, with_lines}
-use Rattle.change_commands.specs.Steps.{IsPlanRefused, MaySteps, ReportsSteps, ShowsSteps, outcome_status, steps_text}
+use Rattle.change_commands.specs.WantedMoves.{IsAtPresent, IsStepsInputOf, StepsInput, first_line_fault, moves_between, moves_of, rollout_of, wanted_costs_in, with_lines}
+use Rattle.change_commands.specs.Steps.{IsStepsInputRefused, MaySteps, ReportsSteps, ShowsSteps, outcome_status, steps_text}
 
 -- The network.
 
@@ -50,10 +50,10 @@ at_present_costs names network d is = record {
       ∙ sym (ap (λ (a : Asked). present_problem_of a network.lsdb) is.request_file ∙ ap (present_problem_of d.asked) is.lsdb);
 }
 
--- and the plan that was read with it
-pub is_plan_of : (names : InputFiles) (network : Network) (d : Input) (bytes : List ℕ) → IsNetworkOf AtPresent names network d →
-    IsPlanOf network (record { input = d; bytes = bytes })
-is_plan_of names network d bytes is = record { request_file = is.request_file; lsdb = is.lsdb; problem = is.problem }
+-- and it is the one that `steps` was handed with a text
+pub is_steps_input_of : (names : InputFiles) (network : Network) (d : Input) (bytes : List ℕ) → IsNetworkOf AtPresent names network d →
+    IsStepsInputOf network (record { input = d; bytes = bytes })
+is_steps_input_of names network d bytes is = record { request_file = is.request_file; lsdb = is.lsdb; problem = is.problem }
 
 -- each link is a variable of the graph by links
 pub priced_links : (d : Database) (n : ℕ) → n ≡ length d.links → All (λ (edge : Edge). IsPriced n edge.price) (graph_by_links d).edges
@@ -77,20 +77,20 @@ paths_by_links network is kept =
 
 -- The report.
 
-may_show : (nodes : ℕ) (by : StepUnit) (plan : Plan) (bytes : List ℕ) (outcome : Outcome) →
-    ShowsSteps nodes by plan (outcome_status outcome) bytes → MaySteps nodes by plan (outcome_status outcome) bytes
-may_show nodes by plan bytes (Order order) shows = shows
-may_show nodes by plan bytes (NoOrder stuck) shows = shows
-may_show nodes by plan bytes (Undecided stuck) shows = shows
+may_show : (nodes : ℕ) (by : StepUnit) (handed : StepsInput) (bytes : List ℕ) (outcome : Outcome) →
+    ShowsSteps nodes by handed (outcome_status outcome) bytes → MaySteps nodes by handed (outcome_status outcome) bytes
+may_show nodes by handed bytes (Order order) shows = shows
+may_show nodes by handed bytes (NoOrder stuck) shows = shows
+may_show nodes by handed bytes (Undecided stuck) shows = shows
 
 abbrev rollout : Database → List Request → CostMoves → Rollout
 rollout d requests moves = record { graph = graph_by_links d; requests = requests; moves = moves }
 
--- a faulty line of a plan refuses it
-pub faulty : (plan : Plan) (network : Network) (names : Database) (lines : List CostLine) (fault : CostsFault) (rejection : Rejection) →
-    IsPlanOf network plan → SaysCosts plan.bytes (Some lines) → names ≡ network.lsdb → first_line_fault names lines ≡ Some fault →
-    rejection.number ≡ costs_fault_number fault → rejection.place ≡ 0 → IsPlanRefused plan rejection
-faulty plan network names lines fault rejection is said same first number place = inr (inr (record {
+-- a faulty cost line refuses the text
+pub faulty : (handed : StepsInput) (network : Network) (names : Database) (lines : List CostLine) (fault : CostsFault) (rejection : Rejection) →
+    IsStepsInputOf network handed → SaysCosts handed.bytes (Some lines) → names ≡ network.lsdb → first_line_fault names lines ≡ Some fault →
+    rejection.number ≡ costs_fault_number fault → rejection.place ≡ 0 → IsStepsInputRefused handed rejection
+faulty handed network names lines fault rejection is said same first number place = inr (inr (record {
   lines = lines;
   said = said;
   fault = fault;
@@ -99,22 +99,22 @@ faulty plan network names lines fault rejection is said same first number place 
   place = place;
 }))
 
--- a rejection of a text that makes no plan may be reported
-pub refused_may : (nodes : ℕ) (by : StepUnit) (plan : Plan) (rejection : Rejection) (report : Report) → IsPlanRefused plan rejection →
-    Reports EvidenceRefused (rejected_line rejection) report → MaySteps nodes by plan report.status (bytes_in report.text)
-refused_may nodes by plan rejection report refused reports =
-    subst (λ (s : Status). MaySteps nodes by plan s (bytes_in report.text)) (sym reports.status) (rejection, refused, reports.text)
+-- a rejection of the text may be reported
+pub refused_may : (nodes : ℕ) (by : StepUnit) (handed : StepsInput) (rejection : Rejection) (report : Report) → IsStepsInputRefused handed rejection →
+    Reports EvidenceRefused (rejected_line rejection) report → MaySteps nodes by handed report.status (bytes_in report.text)
+refused_may nodes by handed rejection report refused reports =
+    subst (λ (s : Status). MaySteps nodes by handed s (bytes_in report.text)) (sym reports.status) (rejection, refused, reports.text)
 
--- what was found of a plan's steps
-pub shown : (nodes : ℕ) (by : StepUnit) (plan : Plan) (network : Network) (lines : List CostLine) (names : Database)
+-- what was found of the steps to the costs of the text
+pub shown : (nodes : ℕ) (by : StepUnit) (handed : StepsInput) (network : Network) (lines : List CostLine) (names : Database)
     (present wanted : List ℕ) (moves : CostMoves) (report : Report) →
-    IsPlanOf network plan → SaysCosts plan.bytes (Some lines) → names ≡ network.lsdb →
+    IsStepsInputOf network handed → SaysCosts handed.bytes (Some lines) → names ≡ network.lsdb →
     present ≡ map (present_cost network.request_file) network.lsdb.links → first_line_fault names lines ≡ None →
     wanted ≡ with_lines names present lines → moves ≡ moves_between by names present wanted →
     ReportsSteps nodes by names (record { graph = graph_by_links network.lsdb; requests = network.problem.requests; moves = moves }) report →
-    MaySteps nodes by plan report.status (bytes_in report.text)
-shown nodes by plan network lines names present wanted moves report is said same present_are faultless wanted_are moves_made reports =
-    let d = plan.input in
+    MaySteps nodes by handed report.status (bytes_in report.text)
+shown nodes by handed network lines names present wanted moves report is said same present_are faultless wanted_are moves_made reports =
+    let d = handed.input in
     let names_are : names ≡ d.database = same ∙ is.lsdb in
     let present_is : present ≡ present_of_links d.asked d.database = present_are
     ∙ ap (λ (a : Asked). map (present_cost a) network.lsdb.links) is.request_file
@@ -130,8 +130,8 @@ shown nodes by plan network lines names present wanted moves report is said same
     ap (λ (x : Database). rollout x network.problem.requests moves) is.lsdb
     ∙ ap (λ (p : DesignProblem). rollout d.database p.requests moves) is.problem
     ∙ ap (rollout d.database d.problem.requests) moves_are in
-    subst (λ (s : Status). MaySteps nodes by plan s (bytes_in report.text)) (sym reports.reports.status)
-    (may_show nodes by plan (bytes_in report.text) reports.steps.outcome (record {
+    subst (λ (s : Status). MaySteps nodes by handed s (bytes_in report.text)) (sym reports.reports.status)
+    (may_show nodes by handed (bytes_in report.text) reports.steps.outcome (record {
       lines = lines;
       said = said;
       faultless = sym (ap (λ (x : Database). first_line_fault x lines) names_are) ∙ faultless;

@@ -5,9 +5,9 @@
 mod change;
 mod change_text;
 mod changed_lines;
-mod plan;
 mod step_text;
 mod steps;
+mod wanted_moves;
 
 pub use change::change_report;
 pub use steps::{StepsWords, steps_report};

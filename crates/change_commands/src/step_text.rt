@@ -2,7 +2,7 @@
 ghost use Rattle.std.specs.Prelude.{◌≡◌, [], ◌∷◌, ◌++◌, codes, slice_index, IfOk, OnOk};
 ghost use Rattle.text_lines.specs.Lines.{with_ends};
 ghost use Rattle.line_builder.specs.Words.{with_words};
-ghost use Rattle.change_steps.specs.Rollouts.{lines_of_step};
+ghost use Rattle.change_steps.specs.Rollouts.{variables_of_step};
 ghost use Rattle.change_commands.specs.Steps.{barrier_word, held_line, link_of_step, outcome_lines};
 ghost use Rattle.change_commands.specs.Steps.{step_line, step_name, step_words, steps_lines, steps_text, stuck_line, stuck_lines};
 
@@ -23,7 +23,7 @@ struct StepNames<'a> {
 
 /// The links of a step.
 fn links_of_step(moves: &Moves, step: usize) -> &[u32]
-    ensures { result.now ≡ lines_of_step moves.now step }
+    ensures { result.now ≡ variables_of_step moves.now step }
 {
     match moves.steps.as_slice().get(step) {
         Some(links) => links.as_slice(),

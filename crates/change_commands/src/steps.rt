@@ -13,11 +13,11 @@ ghost use Rattle.input_files.specs.Outcomes.{Input, longest_answer};
 ghost use Rattle.input_files.specs.Readings.{Gave};
 ghost use Rattle.input_files.specs.Stops.{IsReadAs, files_named};
 ghost use Rattle.report_writer.specs.Reports.{Reports, bytes_in};
-ghost use Rattle.change_commands.specs.Plans.{IsAtPresent, IsPlanOf, Plan, moves_between, plan_read, plan_with};
+ghost use Rattle.change_commands.specs.WantedMoves.{IsAtPresent, IsStepsInputOf, StepsInput, moves_between, steps_read, steps_with};
 ghost use Rattle.change_commands.specs.Steps.{MaySteps, ReportsSteps, outcome_status, steps_text};
 
-use crate::plan::{moves_to, wanted_costs};
 use crate::step_text::text_of_steps;
+use crate::wanted_moves::{moves_to, wanted_costs};
 use change_steps::{Moves, Outcome, Steps, find_steps};
 use command_words::StepUnit;
 use cost_base::{Listed, OutOfMemory, Shelf, Status};
@@ -53,7 +53,7 @@ fn status_of(outcome: &Outcome) -> Status
 }
 
 /// The requests of a problem. For the prover: a call, so that the caller's goals have this part alone.
-fn paths_of(problem: &Problem) -> &[Request]
+fn requests_of(problem: &Problem) -> &[Request]
     ensures { result.now ≡ problem.now.requests }
 {
     problem.requests.as_slice()
@@ -78,7 +78,7 @@ fn steps_of_moves(
         }) nodes) }
 {
     let graph = priced_by_links(alloc, &network.lsdb)?;
-    let steps = find_steps(alloc, &graph, paths_of(&network.problem), moves, nodes);
+    let steps = find_steps(alloc, &graph, requests_of(&network.problem), moves, nodes);
     // For the prover alone: a call drops the graph, so that its parts' drops aren't written out at each exit.
     drop(graph);
     steps
@@ -170,8 +170,8 @@ fn report_by_names(
     requires network { IsAtPresent network.now }
     requires names { names.now ≡ network.now.lsdb }
     requires lines { All (λ line. 0 < line.cost) lines.now }
-    ensures { IfOk result (λ report. (plan : Plan) → IsPlanOf network.now plan →
-        SaysCosts plan.bytes (Some lines.now) → MaySteps words.entry.nodes words.entry.by plan
+    ensures { IfOk result (λ report. (handed : StepsInput) → IsStepsInputOf network.now handed →
+        SaysCosts handed.bytes (Some lines.now) → MaySteps words.entry.nodes words.entry.by handed
         report.status (bytes_in report.text)) }
 {
     let present = costs_of_links(alloc, &network.request_file, &network.lsdb)?;
@@ -190,8 +190,8 @@ fn report_of_lines(
 ) -> Result<Report, OutOfMemory>
     requires network { IsAtPresent network.now }
     requires lines { All (λ line. 0 < line.cost) lines.now }
-    ensures { IfOk result (λ report. (plan : Plan) → IsPlanOf network.now plan →
-        SaysCosts plan.bytes (Some lines.now) → MaySteps words.entry.nodes words.entry.by plan
+    ensures { IfOk result (λ report. (handed : StepsInput) → IsStepsInputOf network.now handed →
+        SaysCosts handed.bytes (Some lines.now) → MaySteps words.entry.nodes words.entry.by handed
         report.status (bytes_in report.text)) }
 {
     let names = Names::new(alloc, &network.lsdb)?;
@@ -210,9 +210,9 @@ fn report_of_costs(
 ) -> Result<Report, OutOfMemory>
     requires network { IsAtPresent network.now }
     requires lines { FitLines costs }
-    ensures { IfOk result (λ report. (plan : Plan) → IsPlanOf network.now plan →
-        SaysCosts plan.bytes costs → MaySteps words.entry.nodes words.entry.by plan report.status
-        (bytes_in report.text)) }
+    ensures { IfOk result (λ report. (handed : StepsInput) → IsStepsInputOf network.now handed →
+        SaysCosts handed.bytes costs → MaySteps words.entry.nodes words.entry.by handed
+        report.status (bytes_in report.text)) }
 {
     match costs {
         Some(lines) => report_of_lines(alloc, network, lines.as_slice(), words),
@@ -229,8 +229,8 @@ fn report_of_text(
 ) -> Result<Report, OutOfMemory>
     requires network { IsAtPresent network.now }
     requires within { length bytes.now ≤ longest_answer }
-    ensures { IfOk result (λ report. (plan : Plan) → IsPlanOf network.now plan →
-        plan.bytes ≡ bytes.now → MaySteps words.entry.nodes words.entry.by plan report.status
+    ensures { IfOk result (λ report. (handed : StepsInput) → IsStepsInputOf network.now handed →
+        handed.bytes ≡ bytes.now → MaySteps words.entry.nodes words.entry.by handed report.status
         (bytes_in report.text)) }
 {
     match read_costs(alloc, bytes) {
@@ -249,8 +249,8 @@ fn report_by_file<'a, S: Shelf>(
     requires { IsAtPresent network.now }
     ensures { (names : InputFiles) → (d : Input) → IsNetworkOf AtPresent names network.now d →
         Gave (S.gave shelf.old shelf.new) (λ came. IsReadAs
-        (plan_with words.entry.answer.now d) came
-        (λ report plan. MaySteps words.entry.nodes words.entry.by plan report.status
+        (steps_with words.entry.answer.now d) came
+        (λ report handed. MaySteps words.entry.nodes words.entry.by handed report.status
         (bytes_in report.text)) result) }
 {
     let bytes = read_answer_file(alloc, shelf, words.answer)?;
@@ -271,8 +271,8 @@ pub fn steps_report<'a, S: Shelf>(
     shelf: &mut S,
 ) -> Result<Report, Stop<'a>>
     ensures { Gave (S.gave shelf.old shelf.new) (λ came. IsReadAs
-        (plan_read (files_named files.entry) words.entry.answer.now) came
-        (λ report plan. MaySteps words.entry.nodes words.entry.by plan report.status
+        (steps_read (files_named files.entry) words.entry.answer.now) came
+        (λ report handed. MaySteps words.entry.nodes words.entry.by handed report.status
         (bytes_in report.text)) result) }
 {
     let network = read_network(alloc, View::AtPresent, files, shelf)?;

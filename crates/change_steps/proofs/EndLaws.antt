@@ -24,10 +24,10 @@ use Rattle.change_steps.specs.Search.{AreBlockedIn, HeldRollout, IsSearch, Posit
 use Rattle.change_steps.specs.Walks.{IsComplete, IsUnderWay}
 use Rattle.change_steps.proofs.Keeping.{lacks_unless}
 use Rattle.change_steps.proofs.MarkLaws.{done_count_of, marks_at, marks_push}
-use Rattle.change_steps.proofs.OrderLaws.{line_ends, passes_that, that_passes}
+use Rattle.change_steps.proofs.OrderLaws.{beginning_ends, passes_that, that_passes}
 use Rattle.change_steps.proofs.NoOrder.{no_order}
 use Rattle.change_steps.proofs.Counting.{budget_short}
-use Rattle.change_steps.proofs.PlanLaws.{passing_no, passing_yes}
+use Rattle.change_steps.proofs.HeldRolloutLaws.{passing_no, passing_yes}
 
 -- All steps between are done.
 
@@ -42,7 +42,7 @@ first_not_last Last is = absurd (false≢true is)
 pub complete_order : (p : HeldRollout) (w : Walk) (order : List ℕ) → IsRollout p.rollout → AreHeld p.rollout p.held → IsComplete p w →
     order ≡ order_behind_first p w.order.items ++ last_steps p → IsSafeOrder p.rollout p.held order
 complete_order p w order rollout held is same = subst (λ (xs : List ℕ). IsSafeOrder p.rollout p.held xs) (sym same)
-    (line_ends p.rollout p.held (order_behind_first p w.order.items) rollout held is.walk.search.line
+    (beginning_ends p.rollout p.held (order_behind_first p w.order.items) rollout held is.walk.search.beginning
     (λ k has. elim (one_of_both (first_steps p.rollout p.held) w.order.items k has) [
       | inl first ↦ first_not_last (kind_of_step p.rollout p.held k) (that_passes p.rollout (λ i. comes_first (kind_of_step p.rollout p.held i)) k first).1
       | inr between ↦ ap comes_last (all_has (λ i. kind_of_step p.rollout p.held i ≡ Between) w.order.items k is.walk.search.between (one_of_has w.order.items k between))
@@ -76,8 +76,8 @@ greatest_blocks p s marks is same step follows has safe =
     let counted : done_count (get_or s.tested has.0 []) ≡ length (order_behind_first p s.greatest ++ step ∷ []) =
     ap done_count (at ∙ ap (λ (m : List Bool). set m step true) same ∙ marks_push p.rollout (order_behind_first p s.greatest) step follows.known)
     ∙ done_count_of p.rollout (order_behind_first p s.greatest ++ step ∷ [])
-    (All-push (λ k. k < step_count p.rollout) (order_behind_first p s.greatest) step is.most.line.known follows.known)
-    (none_twice_push (order_behind_first p s.greatest) step is.most.line.once (lacks_unless (order_behind_first p s.greatest) step (λ there.
+    (All-push (λ k. k < step_count p.rollout) (order_behind_first p s.greatest) step is.most.beginning.known follows.known)
+    (none_twice_push (order_behind_first p s.greatest) step is.most.beginning.once (lacks_unless (order_behind_first p s.greatest) step (λ there.
     both_ways (is_one_of (order_behind_first p s.greatest) step)
     (sym (marks_at p.rollout (is_one_of (order_behind_first p s.greatest)) step follows.known)
     ∙ ap (λ (m : List Bool). is_marked m step) (sym same) ∙ follows.left)
@@ -173,7 +173,7 @@ budget_used_up p nodes w stuck is used_up another end = (
   budget_short p.rollout p.held w.tested nodes is.walk.search.are used_up another,
 )
 
--- a plan's outcome is one of the rollout
+-- the outcome of a held rollout is one of its rollout
 pub steps_found : (q r : Rollout) (held : List ℕ) (nodes : ℕ) (steps : Steps) → q ≡ r → AreHeld q held → IsOutcome q held nodes steps.outcome →
     steps.held.items ≡ held → AreStepsFound r nodes steps
 steps_found q r held nodes steps same are outcome held_is = subst (λ (x : Rollout). AreStepsFound x nodes steps) same (record {

@@ -86,7 +86,7 @@ held_more_marked r held edges i marks new g within are graph edges_are count tol
       ∙ sym (lies_more r held i v within);
 }
 
--- Lines off held paths, one after another.
+-- Variables off held paths, one after another.
 
 all_more : (p : ℕ → Bool) (xs : List ℕ) (i : ℕ) → i < length xs → list_all p (take i xs) ≡ true → p (get_or xs i 0) ≡ true → list_all p (take (i + 1) xs) ≡ true
 all_more p xs i within so_far here = list_all_more p xs i 0 within ∙ and_from (list_all p (take i xs)) (p (get_or xs i 0)) so_far here
@@ -95,41 +95,41 @@ off_held : (r : Rollout) (held : List ℕ) (marks : List Bool) (v : ℕ) → Are
     not (lies_on_held r held v) ≡ true
 off_held r held marks v are known left = not_from_false (lies_on_held r held v) (sym (are.told v known) ∙ left)
 
-pub risen_more : (r : Rollout) (held : List ℕ) (marks : List Bool) (lines : List ℕ) (i : ℕ) → i < length lines → get_or lines i 0 < length r.moves.present →
-    AreHeldMarks r held marks → rises r.moves (get_or lines i 0) ≡ true → get_or marks (get_or lines i 0) false ≡ false →
-    list_all (rises_off_held r held) (take i lines) ≡ true → list_all (rises_off_held r held) (take (i + 1) lines) ≡ true
-risen_more r held marks lines i within known are rise left so_far =
-    all_more (rises_off_held r held) lines i within so_far
-    (and_from (rises r.moves (get_or lines i 0)) (not (lies_on_held r held (get_or lines i 0))) rise (off_held r held marks (get_or lines i 0) are known left))
+pub risen_more : (r : Rollout) (held : List ℕ) (marks : List Bool) (variables : List ℕ) (i : ℕ) → i < length variables → get_or variables i 0 < length r.moves.present →
+    AreHeldMarks r held marks → rises r.moves (get_or variables i 0) ≡ true → get_or marks (get_or variables i 0) false ≡ false →
+    list_all (rises_off_held r held) (take i variables) ≡ true → list_all (rises_off_held r held) (take (i + 1) variables) ≡ true
+risen_more r held marks variables i within known are rise left so_far =
+    all_more (rises_off_held r held) variables i within so_far
+    (and_from (rises r.moves (get_or variables i 0)) (not (lies_on_held r held (get_or variables i 0))) rise (off_held r held marks (get_or variables i 0) are known left))
 
-pub fallen_more : (r : Rollout) (held : List ℕ) (marks : List Bool) (lines : List ℕ) (i : ℕ) → i < length lines → get_or lines i 0 < length r.moves.present →
-    AreHeldMarks r held marks → rises r.moves (get_or lines i 0) ≡ false → get_or marks (get_or lines i 0) false ≡ false →
-    list_all (falls_off_held r held) (take i lines) ≡ true → list_all (falls_off_held r held) (take (i + 1) lines) ≡ true
-fallen_more r held marks lines i within known are fall left so_far =
-    all_more (falls_off_held r held) lines i within so_far
-    (and_from (not (rises r.moves (get_or lines i 0))) (not (lies_on_held r held (get_or lines i 0))) (not_from_false (rises r.moves (get_or lines i 0)) fall)
-    (off_held r held marks (get_or lines i 0) are known left))
+pub fallen_more : (r : Rollout) (held : List ℕ) (marks : List Bool) (variables : List ℕ) (i : ℕ) → i < length variables → get_or variables i 0 < length r.moves.present →
+    AreHeldMarks r held marks → rises r.moves (get_or variables i 0) ≡ false → get_or marks (get_or variables i 0) false ≡ false →
+    list_all (falls_off_held r held) (take i variables) ≡ true → list_all (falls_off_held r held) (take (i + 1) variables) ≡ true
+fallen_more r held marks variables i within known are fall left so_far =
+    all_more (falls_off_held r held) variables i within so_far
+    (and_from (not (rises r.moves (get_or variables i 0))) (not (lies_on_held r held (get_or variables i 0))) (not_from_false (rises r.moves (get_or variables i 0)) fall)
+    (off_held r held marks (get_or variables i 0) are known left))
 
--- a line of another kind, and one that is on a held path
+-- a variable of another kind, and one that is on a held path
 fails_at : (p : ℕ → Bool) (xs : List ℕ) (i : ℕ) → i < length xs → p (get_or xs i 0) ≡ false → false ≡ list_all p xs
 fails_at p xs i within here = sym (list_all_at p xs i 0 within here)
 
-pub not_risen : (r : Rollout) (held lines : List ℕ) (i : ℕ) → i < length lines → rises r.moves (get_or lines i 0) ≡ false →
-    false ≡ list_all (rises_off_held r held) lines
-not_risen r held lines i within fall =
-    fails_at (rises_off_held r held) lines i within (ap (λ (b : Bool). b && not (lies_on_held r held (get_or lines i 0))) fall)
+pub not_risen : (r : Rollout) (held variables : List ℕ) (i : ℕ) → i < length variables → rises r.moves (get_or variables i 0) ≡ false →
+    false ≡ list_all (rises_off_held r held) variables
+not_risen r held variables i within fall =
+    fails_at (rises_off_held r held) variables i within (ap (λ (b : Bool). b && not (lies_on_held r held (get_or variables i 0))) fall)
 
-pub not_fallen : (r : Rollout) (held lines : List ℕ) (i : ℕ) → i < length lines → rises r.moves (get_or lines i 0) ≡ true →
-    false ≡ list_all (falls_off_held r held) lines
-not_fallen r held lines i within rise =
-    fails_at (falls_off_held r held) lines i within (ap (λ (b : Bool). not b && not (lies_on_held r held (get_or lines i 0))) rise)
+pub not_fallen : (r : Rollout) (held variables : List ℕ) (i : ℕ) → i < length variables → rises r.moves (get_or variables i 0) ≡ true →
+    false ≡ list_all (falls_off_held r held) variables
+not_fallen r held variables i within rise =
+    fails_at (falls_off_held r held) variables i within (ap (λ (b : Bool). not b && not (lies_on_held r held (get_or variables i 0))) rise)
 
-pub not_off : (r : Rollout) (held : List ℕ) (marks : List Bool) (lines : List ℕ) (i : ℕ) (test : ℕ → Bool) → i < length lines →
-    get_or lines i 0 < length r.moves.present → AreHeldMarks r held marks → get_or marks (get_or lines i 0) false ≡ true →
-    false ≡ list_all (λ v. test v && not (lies_on_held r held v)) lines
-not_off r held marks lines i test within known are marked =
-    fails_at (λ v. test v && not (lies_on_held r held v)) lines i within
-    (and_right (test (get_or lines i 0)) (not (lies_on_held r held (get_or lines i 0))) (ap not (sym (are.told (get_or lines i 0) known) ∙ marked)))
+pub not_off : (r : Rollout) (held : List ℕ) (marks : List Bool) (variables : List ℕ) (i : ℕ) (test : ℕ → Bool) → i < length variables →
+    get_or variables i 0 < length r.moves.present → AreHeldMarks r held marks → get_or marks (get_or variables i 0) false ≡ true →
+    false ≡ list_all (λ v. test v && not (lies_on_held r held v)) variables
+not_off r held marks variables i test within known are marked =
+    fails_at (λ v. test v && not (lies_on_held r held v)) variables i within
+    (and_right (test (get_or variables i 0)) (not (lies_on_held r held (get_or variables i 0))) (ap not (sym (are.told (get_or variables i 0) known) ∙ marked)))
 
 -- Steps that may follow.
 

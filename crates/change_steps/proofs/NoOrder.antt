@@ -63,14 +63,14 @@ core_tested : (r : Rollout) (held order : List ℕ) (tested : List (List Bool)) 
 core_tested r held order tested is begin all safe zero within = subst (λ (marks : List Bool). Contains tested marks) (core_begin r held) begin
 core_tested r held order tested is begin all safe (suc n) within =
     subst (λ (marks : List Bool). Contains tested marks) (ap (λ (xs : List ℕ). marks_of r (core r held xs)) (sym longer))
-    (one_more step step_known (take n order) (safe.line.safe n (omega (arith, within)))
+    (one_more step step_known (take n order) (safe.beginning.safe n (omega (arith, within)))
     (core_tested r held order tested is begin all safe n (omega (arith, within))))
   where
     step : ℕ
     step = get_or order n 0
 
     step_known : step < step_count r
-    step_known = safe.line.known n 0 (omega (arith, within))
+    step_known = safe.beginning.known n 0 (omega (arith, within))
 
     longer : take (suc n) order ≡ take n order ++ step ∷ []
     longer = ap (λ (m : ℕ). take m order) (let next : suc n ≡ n + 1 = omega arith in next) ∙ take_more order n 0 (omega (arith, within))
@@ -124,7 +124,7 @@ no_order r held tested is begin all lacking order safe =
     let here = core_tested r held order tested is begin all safe (length order) (omega arith) in
     let at : get_or tested here.0 [] ≡ marks_of r (core r held order) =
     get_or_default tested here.0 [] (marks_of r (core r held (take (length order) order))) here.1 ∙ here.2 ∙ ap (λ (xs : List ℕ). marks_of r (core r held xs)) whole in
-    let order_safe : IsSafe r held (is_one_of order) = subst (λ (xs : List ℕ). IsSafe r held (is_one_of xs)) whole (safe.line.safe (length order) (omega arith)) in
+    let order_safe : IsSafe r held (is_one_of order) = subst (λ (xs : List ℕ). IsSafe r held (is_one_of xs)) whole (safe.beginning.safe (length order) (omega arith)) in
     let lacks = lacking here.0 here.1 (marks_safe r held (core r held order) (get_or tested here.0 []) at (core_safe r held order is order_safe)) in
     both_ways (is_one_of order lacks.0)
     (sym (ap (λ (kind : Kind). done_by kind (is_one_of order lacks.0)) lacks.1.between)

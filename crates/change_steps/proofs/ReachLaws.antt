@@ -17,7 +17,7 @@ use Rattle.area_graph.proofs.Visits.{joined_known}
 use Rattle.design_problem.specs.Problems.{request_at, request_ends}
 use Rattle.spf_ties.specs.Distances.{IsLeastCost}
 use Rattle.change_steps.specs.declared.reach.Reach.{Reach}
-use Rattle.change_steps.specs.Rollouts.{CostMoves, IsInterfaceCost, IsRollout, Rollout, lines_of_step, step_count}
+use Rattle.change_steps.specs.Rollouts.{CostMoves, IsInterfaceCost, IsRollout, Rollout, variables_of_step, step_count}
 use Rattle.change_steps.specs.Orders.{IsOnlyIn, costs_in, is_changed}
 use Rattle.change_steps.specs.Search.{HasMore}
 use Rattle.change_steps.specs.Reaches.{AreLeastToEach, AreDearerOver, AreLeastTo, IsHarmless, IsReach, least_from_to, edges_of_step, has_price, least_cost, least_costs, price_rises}
@@ -138,7 +138,7 @@ at_least_more g p n least row count are is = λ target. elim (cases_lt target n)
 
 pub step_edges_known : (r : Rollout) (step : ℕ) → All (λ e. e < length r.graph.edges) (edges_of_step r step)
 unfolding edges_of_step
-step_edges_known r step = all_kept (λ e. e < length r.graph.edges) (λ e. has_price (lines_of_step r.moves step) (edge_at r.graph e).price) 0 (length r.graph.edges)
+step_edges_known r step = all_kept (λ e. e < length r.graph.edges) (λ e. has_price (variables_of_step r.moves step) (edge_at r.graph e).price) 0 (length r.graph.edges)
     (λ e above below has. omega (arith, below))
 
 pub step_edges : (r : Rollout) (reach : Reach) (step : ℕ) → IsReach r reach → step < step_count r → get_or reach.edges step [] ≡ edges_of_step r step
@@ -188,7 +188,7 @@ unfolding edges_of_step
 harmless_only r f g step k is more harmless only =
     only_unless r.graph (at_costs (costs_in r.moves f)) (at_costs (costs_in r.moves g)) (request_ends (request_at r.requests k)) (request_at r.requests k).path.edges only
     (λ e has. price_le (costs_in r.moves g) (costs_in r.moves f) (edge_at r.graph e).price
-    (λ v price. costs_le r.moves g f v (elim (cases_Bool (has_price (lines_of_step r.moves step) (edge_at r.graph e).price)) [
+    (λ v price. costs_le r.moves g f v (elim (cases_Bool (has_price (variables_of_step r.moves step) (edge_at r.graph e).price)) [
       | inl in' ↦ between_costs r.moves g f v
           (λ g_is f_not. ap (price_rises r.moves) (sym price) ∙ (at e (known e has) in').on has)
           (λ g_not f_is. absurd (both_ways (is_changed r.moves g v) g_not (changed e v price in')))
@@ -197,7 +197,7 @@ harmless_only r f g step k is more harmless only =
           between_costs r.moves g f v (λ g_is f_not. absurd (both_ways (is_changed r.moves f v) f_not (same ∙ g_is)))
           (λ g_not f_is. absurd (both_ways (is_changed r.moves f v) (same ∙ g_not) f_is))
     ])))
-    (λ e within away. elim (cases_Bool (has_price (lines_of_step r.moves step) (edge_at r.graph e).price)) [
+    (λ e within away. elim (cases_Bool (has_price (variables_of_step r.moves step) (edge_at r.graph e).price)) [
       | inl in' ↦ elim ((at e within in').off away) [
         | inl rise ↦ inl (price_le (costs_in r.moves f) (costs_in r.moves g) (edge_at r.graph e).price
             (λ v price. costs_le r.moves f g v (between_costs r.moves f g v
@@ -216,15 +216,15 @@ harmless_only r f g step k is more harmless only =
     known e has = all_has (λ i. i < length r.graph.edges) (request_at r.requests k).path.edges e
         (joined_known r.graph (request_ends (request_at r.requests k)).start (request_at r.requests k).path.edges (request_ends (request_at r.requests k)).end only.path.simple.joins) has
 
-    at : (e : ℕ) → e < length r.graph.edges → has_price (lines_of_step r.moves step) (edge_at r.graph e).price ≡ true → IsHarmless r g k e
-    at e within in' = kept_all (IsHarmless r g k) (λ x. has_price (lines_of_step r.moves step) (edge_at r.graph x).price) 0 (length r.graph.edges) harmless e
+    at : (e : ℕ) → e < length r.graph.edges → has_price (variables_of_step r.moves step) (edge_at r.graph e).price ≡ true → IsHarmless r g k e
+    at e within in' = kept_all (IsHarmless r g k) (λ x. has_price (variables_of_step r.moves step) (edge_at r.graph x).price) 0 (length r.graph.edges) harmless e
         (omega arith) (omega (arith, within)) in'
 
-    changed : (e v : ℕ) → (edge_at r.graph e).price ≡ Var v → has_price (lines_of_step r.moves step) (edge_at r.graph e).price ≡ true → is_changed r.moves g v ≡ true
+    changed : (e v : ℕ) → (edge_at r.graph e).price ≡ Var v → has_price (variables_of_step r.moves step) (edge_at r.graph e).price ≡ true → is_changed r.moves g v ≡ true
     changed e v price in' = changed_if r.moves g v step more.known more.done
-        (one_of_has (lines_of_step r.moves step) v (ap (has_price (lines_of_step r.moves step)) (sym price) ∙ in'))
+        (one_of_has (variables_of_step r.moves step) v (ap (has_price (variables_of_step r.moves step)) (sym price) ∙ in'))
 
-    unchanged : (e v : ℕ) → (edge_at r.graph e).price ≡ Var v → has_price (lines_of_step r.moves step) (edge_at r.graph e).price ≡ false →
+    unchanged : (e v : ℕ) → (edge_at r.graph e).price ≡ Var v → has_price (variables_of_step r.moves step) (edge_at r.graph e).price ≡ false →
         is_changed r.moves f v ≡ is_changed r.moves g v
-    unchanged e v price out = same_change r f g step v more (λ has. both_ways (is_one_of (lines_of_step r.moves step) v)
-        (ap (has_price (lines_of_step r.moves step)) (sym price) ∙ out) (has_one_of (lines_of_step r.moves step) v has))
+    unchanged e v price out = same_change r f g step v more (λ has. both_ways (is_one_of (variables_of_step r.moves step) v)
+        (ap (has_price (variables_of_step r.moves step)) (sym price) ∙ out) (has_one_of (variables_of_step r.moves step) v has))

@@ -8,13 +8,13 @@ use Rattle.cost_base.proofs.ListLemmas.{All-left}
 use Rattle.cost_base.specs.Marks.{is_marked, is_one_of}
 use Rattle.change_steps.specs.declared.kinds.Kind.TheVariants.{Between}
 use Rattle.change_steps.specs.Rollouts.{IsRollout, step_count}
-use Rattle.change_steps.specs.Orders.{AreHeld, IsSafe, IsSafeLine}
+use Rattle.change_steps.specs.Orders.{AreHeld, IsSafe, IsSafeBeginning}
 use Rattle.change_steps.specs.Kinds.{first_steps, kind_of_step}
 use Rattle.change_steps.specs.States.{AreAllReached, AreTested, IsAnotherReached, IsReached, MayFollow, marks_of}
 use Rattle.change_steps.specs.Outcomes.{IsGreatest, done_count}
 use Rattle.change_steps.specs.Search.{AllLack, HeldRollout, IsExplored, IsNewStep, IsOnWay, IsSearch, Position, order_behind_first, longer_of, way_state}
 use Rattle.change_steps.proofs.MarkLaws.{done_count_of, marks_at, marks_push, marks_safe, safe_marks}
-use Rattle.change_steps.proofs.OrderLaws.{first_line, first_state_is, line_left, line_push}
+use Rattle.change_steps.proofs.OrderLaws.{first_beginning, first_state_is, beginning_left, beginning_push}
 
 -- The tested states with one more.
 
@@ -89,26 +89,26 @@ top_safe p s is =
     marks_safe p.rollout p.held (is_one_of (order_behind_first p s.order)) (way_state p s.order) refl
     (subst (λ (xs : List ℕ). IsSafe p.rollout p.held (is_one_of xs))
     (take_all (length (order_behind_first p s.order)) (order_behind_first p s.order) (omega arith))
-    (is.line.safe (length (order_behind_first p s.order)) (omega arith)))
+    (is.beginning.safe (length (order_behind_first p s.order)) (omega arith)))
 
 pub top_tested : (p : HeldRollout) (s : Position) → IsSearch p s → Contains s.tested (way_state p s.order)
 top_tested p s is = subst (λ (xs : List ℕ). Contains s.tested (way_state p xs)) (take_all (length s.order) s.order (omega arith)) (is.on_way (length s.order) (omega arith))
 
-line_push_is : (p : HeldRollout) (order : List ℕ) (k : ℕ) → order_behind_first p (order ++ k ∷ []) ≡ order_behind_first p order ++ k ∷ []
-line_push_is p order k = sym (append_assoc (first_steps p.rollout p.held) order (k ∷ []))
+beginning_push_is : (p : HeldRollout) (order : List ℕ) (k : ℕ) → order_behind_first p (order ++ k ∷ []) ≡ order_behind_first p order ++ k ∷ []
+beginning_push_is p order k = sym (append_assoc (first_steps p.rollout p.held) order (k ∷ []))
 
 -- the state after one step more
 pub way_push : (p : HeldRollout) (order : List ℕ) (k : ℕ) → k < step_count p.rollout → set (way_state p order) k true ≡ way_state p (order ++ k ∷ [])
 way_push p order k known = marks_push p.rollout (order_behind_first p order) k known
-    ∙ ap (λ (xs : List ℕ). marks_of p.rollout (is_one_of xs)) (sym (line_push_is p order k))
+    ∙ ap (λ (xs : List ℕ). marks_of p.rollout (is_one_of xs)) (sym (beginning_push_is p order k))
 
 -- a step that may follow isn't on the way
 step_new : (p : HeldRollout) (order : List ℕ) (k : ℕ) → MayFollow p.rollout p.held (way_state p order) k → is_one_of (order_behind_first p order) k ≡ false
 step_new p order k follows = sym (marks_at p.rollout (is_one_of (order_behind_first p order)) k follows.known) ∙ follows.left
 
-count_of : (p : HeldRollout) (order : List ℕ) → IsSafeLine p.rollout p.held (order_behind_first p order) →
+count_of : (p : HeldRollout) (order : List ℕ) → IsSafeBeginning p.rollout p.held (order_behind_first p order) →
     done_count (way_state p order) ≡ length (order_behind_first p order)
-count_of p order line = done_count_of p.rollout (order_behind_first p order) line.known line.once
+count_of p order beginning = done_count_of p.rollout (order_behind_first p order) beginning.known beginning.once
 
 -- It begins with the first steps.
 
@@ -118,7 +118,7 @@ zeros = 0 ∷ []
 pub search_begins : (p : HeldRollout) → IsRollout p.rollout → AreHeld p.rollout p.held →
     IsSearch p (record { order = []; next = 0; tested = way_state p [] ∷ []; greatest = [] })
 search_begins p is are = record {
-  line = line;
+  beginning = beginning;
   between = All-nil (λ k. kind_of_step p.rollout p.held k ≡ Between);
   are = record {
     some = omega arith;
@@ -130,14 +130,14 @@ search_begins p is are = record {
   explored = λ d within. λ k below. absurd (let nothing = zero_at d in omega (arith, below, nothing));
   finished = λ marks here safe. inl (0, omega arith, only marks here.0 here.1 here.2);
   most = record {
-    line = line;
+    beginning = beginning;
     rest = [];
     begin = refl;
     between = All-nil (λ k. kind_of_step p.rollout p.held k ≡ Between);
     place = 0;
     within = omega arith;
     same = refl;
-    greatest = λ i within safe. let count = count_of p [] line in let first : i ≡ 0 = omega (arith, within) in
+    greatest = λ i within safe. let count = count_of p [] beginning in let first : i ≡ 0 = omega (arith, within) in
         subst (λ (n : ℕ). done_count (get_or (way_state p [] ∷ []) n []) ≤ length (order_behind_first p [])) (sym first) (omega (arith, count));
     earliest = λ i less safe. absurd (omega arith);
   };
@@ -146,8 +146,8 @@ search_begins p is are = record {
     none : order_behind_first p [] ≡ first_steps p.rollout p.held
     none = append-nil (first_steps p.rollout p.held)
 
-    line : IsSafeLine p.rollout p.held (order_behind_first p [])
-    line = subst (λ (xs : List ℕ). IsSafeLine p.rollout p.held xs) (sym none) (first_line p.rollout p.held is are)
+    beginning : IsSafeBeginning p.rollout p.held (order_behind_first p [])
+    beginning = subst (λ (xs : List ℕ). IsSafeBeginning p.rollout p.held xs) (sym none) (first_beginning p.rollout p.held is are)
 
     none_taken : (d : ℕ) → take {A = ℕ} d [] ≡ []
     none_taken zero = refl
@@ -175,7 +175,7 @@ begin_lacks p k follows = λ marks here safe. (k, subst (λ (m : List Bool). May
 pub search_moves : (p : HeldRollout) (s : Position) (k : ℕ) → IsSearch p s → IsExplored p s.tested (way_state p s.order) k →
     IsSearch p (record { order = s.order; next = k; tested = s.tested; greatest = s.greatest })
 search_moves p s k is explored = record {
-  line = is.line;
+  beginning = is.beginning;
   between = is.between;
   are = is.are;
   on_way = is.on_way;
@@ -208,7 +208,7 @@ push_are p s step is new =
 greatest_stays : (p : HeldRollout) (tested : List (List Bool)) (marks : List Bool) (done : List ℕ) → IsGreatest p.rollout p.held tested done →
     (IsSafe p.rollout p.held (is_marked marks) → done_count marks ≤ length done) → IsGreatest p.rollout p.held (tested ++ marks ∷ []) done
 greatest_stays p tested marks done is less = record {
-  line = is.line;
+  beginning = is.beginning;
   rest = is.rest;
   begin = is.begin;
   between = is.between;
@@ -249,7 +249,7 @@ pub search_fails : (p : HeldRollout) (s : Position) (step : ℕ) → IsSearch p 
     IsSearch p (record { order = s.order; next = step + 1; tested = s.tested ++ set (way_state p s.order) step true ∷ []; greatest = s.greatest })
 search_fails p s step is at new unsafe = search_moves p (record { order = s.order; next = s.next; tested = tested; greatest = s.greatest }) (step + 1)
     (record {
-      line = is.line;
+      beginning = is.beginning;
       between = is.between;
       are = push_are p s step is new;
       on_way = λ d within. Contains-append_left s.tested (marks ∷ []) (way_state p (take d s.order)) (is.on_way d within);
@@ -269,14 +269,14 @@ search_fails p s step is at new unsafe = search_moves p (record { order = s.orde
 
 -- a safe state
 record Entered (p : HeldRollout) (s : Position) (step : ℕ) : Type 0 where
-  line : IsSafeLine p.rollout p.held (order_behind_first p (s.order ++ step ∷ []))
+  beginning : IsSafeBeginning p.rollout p.held (order_behind_first p (s.order ++ step ∷ []))
   way : set (way_state p s.order) step true ≡ way_state p (s.order ++ step ∷ [])
 
 entered : (p : HeldRollout) (s : Position) (step : ℕ) → IsSearch p s → IsNewStep p s.tested (way_state p s.order) step →
     IsSafe p.rollout p.held (is_marked (set (way_state p s.order) step true)) → Entered p s step
 entered p s step is new safe = record {
-  line = subst (λ (xs : List ℕ). IsSafeLine p.rollout p.held xs) (sym (line_push_is p s.order step))
-      (line_push p.rollout p.held (order_behind_first p s.order) step is.line new.follows.known (step_new p s.order step new.follows)
+  beginning = subst (λ (xs : List ℕ). IsSafeBeginning p.rollout p.held xs) (sym (beginning_push_is p s.order step))
+      (beginning_push p.rollout p.held (order_behind_first p s.order) step is.beginning new.follows.known (step_new p s.order step new.follows)
       (safe_marks p.rollout p.held (is_one_of (order_behind_first p s.order ++ step ∷ [])) (set (way_state p s.order) step true)
       (marks_push p.rollout (order_behind_first p s.order) step new.follows.known) safe));
   way = way_push p s.order step new.follows.known;
@@ -290,12 +290,12 @@ greatest_enters : (p : HeldRollout) (s : Position) (step : ℕ) (longer : Bool) 
 greatest_enters p s step false compared is new enters =
     greatest_stays p s.tested (set (way_state p s.order) step true) (order_behind_first p s.greatest) is.most (λ safe.
     let fewer = ltb-false (length s.greatest) (length (s.order ++ step ∷ [])) (sym compared) in
-    let count = ap done_count enters.way ∙ count_of p (s.order ++ step ∷ []) enters.line in
+    let count = ap done_count enters.way ∙ count_of p (s.order ++ step ∷ []) enters.beginning in
     let mine = length-append (first_steps p.rollout p.held) (s.order ++ step ∷ []) in
     let theirs = length-append (first_steps p.rollout p.held) s.greatest in
     omega (arith, fewer, count, mine, theirs))
 greatest_enters p s step true compared is new enters = record {
-  line = enters.line;
+  beginning = enters.beginning;
   rest = s.order ++ step ∷ [];
   begin = refl;
   between = All-push (λ k. kind_of_step p.rollout p.held k ≡ Between) s.order step is.between new.follows.between;
@@ -307,7 +307,7 @@ greatest_enters p s step true compared is new enters = record {
     | inr behind ↦
         let last : get_or (s.tested ++ marks ∷ []) i [] ≡ marks =
         get_or_at s.tested marks [] [] i (let count = length_push s.tested marks in omega (arith, count, within, behind)) in
-        let count = ap done_count (last ∙ enters.way) ∙ count_of p (s.order ++ step ∷ []) enters.line in
+        let count = ap done_count (last ∙ enters.way) ∙ count_of p (s.order ++ step ∷ []) enters.beginning in
         omega (arith, count)
   ];
   earliest = λ i before safe. fewer i before safe;
@@ -336,7 +336,7 @@ pub search_enters : (p : HeldRollout) (s : Position) (step : ℕ) → IsSearch p
       greatest = longer_of s.greatest (s.order ++ step ∷ []);
     })
 search_enters p s step is at new safe = record {
-  line = enters.line;
+  beginning = enters.beginning;
   between = All-push (λ k. kind_of_step p.rollout p.held k ≡ Between) s.order step is.between new.follows.between;
   are = push_are p s step is new;
   on_way = λ d within. elim (cases_lt (length s.order) d) [
@@ -396,12 +396,12 @@ search_backs p s order step is same end = search_moves p back (step + 1) whole
     back : Position
     back = record { order = order; next = step; tested = s.tested; greatest = s.greatest }
 
-    line : IsSafeLine p.rollout p.held (order_behind_first p order ++ step ∷ [])
-    line = subst (λ (xs : List ℕ). IsSafeLine p.rollout p.held xs) (ap (order_behind_first p) same ∙ line_push_is p order step) is.line
+    beginning : IsSafeBeginning p.rollout p.held (order_behind_first p order ++ step ∷ [])
+    beginning = subst (λ (xs : List ℕ). IsSafeBeginning p.rollout p.held xs) (ap (order_behind_first p) same ∙ beginning_push_is p order step) is.beginning
 
     known : step < step_count p.rollout
     known = subst (λ (k : ℕ). k < step_count p.rollout) (get_or_at (order_behind_first p order) step [] 0 (length (order_behind_first p order)) refl)
-        (line.known (length (order_behind_first p order)) 0 (let count = length_push (order_behind_first p order) step in omega (arith, count)))
+        (beginning.known (length (order_behind_first p order)) 0 (let count = length_push (order_behind_first p order) step in omega (arith, count)))
 
     longer : length s.order ≡ length order + 1
     longer = ap length same ∙ length_push order step
@@ -418,7 +418,7 @@ search_backs p s order step is same end = search_moves p back (step + 1) whole
 
     whole : IsSearch p back
     whole = record {
-      line = line_left p.rollout p.held (order_behind_first p order) (step ∷ []) line;
+      beginning = beginning_left p.rollout p.held (order_behind_first p order) (step ∷ []) beginning;
       between = All-left (λ k. kind_of_step p.rollout p.held k ≡ Between) order (step ∷ [])
           (subst (λ (xs : List ℕ). All (λ k. kind_of_step p.rollout p.held k ≡ Between) xs) same is.between);
       are = is.are;

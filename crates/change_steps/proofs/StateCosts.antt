@@ -14,7 +14,7 @@ use Rattle.area_graph.specs.Area.{Area, edge_at}
 use Rattle.area_graph.specs.Costs.{FitsPoint, IsOnlyCheapest, IsPriced, at_costs, price_at}
 use Rattle.design_problem.specs.Problems.{request_at, request_ends}
 use Rattle.design_problem.specs.Rows.{is_var}
-use Rattle.change_steps.specs.Rollouts.{AreMoves, CostMoves, IsInterfaceCost, IsRollout, Rollout, lines_of_step}
+use Rattle.change_steps.specs.Rollouts.{AreMoves, CostMoves, IsInterfaceCost, IsRollout, Rollout, variables_of_step}
 use Rattle.change_steps.specs.Orders.{IsOnlyIn, IsSafe, cost_in, costs_in, is_changed}
 use Rattle.change_steps.specs.Kinds.{goes_over}
 use Rattle.change_steps.proofs.Keeping.{only_kept}
@@ -36,23 +36,23 @@ passes_below p n k within passes =
 
 -- a variable is changed exactly where a step that is done has it
 pub changed_by : (m : CostMoves) (done : ℕ → Bool) (v : ℕ) → is_changed m done v ≡ true →
-    (k : ℕ) × (k < length m.steps) × (done k ≡ true) × Has (lines_of_step m k) v
+    (k : ℕ) × (k < length m.steps) × (done k ≡ true) × Has (variables_of_step m k) v
 unfolding is_changed
 changed_by m done v changed =
-    let by = passed_below (λ k. done k && is_one_of (lines_of_step m k) v) (length m.steps) changed in
-    let parts = and_parts (done by.0) (is_one_of (lines_of_step m by.0) v) by.2 in
-    (by.0, by.1, parts.0, one_of_has (lines_of_step m by.0) v parts.1)
+    let by = passed_below (λ k. done k && is_one_of (variables_of_step m k) v) (length m.steps) changed in
+    let parts = and_parts (done by.0) (is_one_of (variables_of_step m by.0) v) by.2 in
+    (by.0, by.1, parts.0, one_of_has (variables_of_step m by.0) v parts.1)
 
-pub changed_if : (m : CostMoves) (done : ℕ → Bool) (v k : ℕ) → k < length m.steps → done k ≡ true → Has (lines_of_step m k) v →
+pub changed_if : (m : CostMoves) (done : ℕ → Bool) (v k : ℕ) → k < length m.steps → done k ≡ true → Has (variables_of_step m k) v →
     is_changed m done v ≡ true
 unfolding is_changed
 changed_if m done v k within is has =
-    passes_below (λ i. done i && is_one_of (lines_of_step m i) v) (length m.steps) k within
-    (and_from (done k) (is_one_of (lines_of_step m k) v) is (has_one_of (lines_of_step m k) v has))
+    passes_below (λ i. done i && is_one_of (variables_of_step m i) v) (length m.steps) k within
+    (and_from (done k) (is_one_of (variables_of_step m k) v) is (has_one_of (variables_of_step m k) v has))
 
 -- a state that has each step of another one changes what that changes
 pub changes_more : (m : CostMoves) (f g : ℕ → Bool) (v : ℕ) →
-    ((k : ℕ) → k < length m.steps → f k ≡ true → Has (lines_of_step m k) v → g k ≡ true) → is_changed m f v ≡ true → is_changed m g v ≡ true
+    ((k : ℕ) → k < length m.steps → f k ≡ true → Has (variables_of_step m k) v → g k ≡ true) → is_changed m f v ≡ true → is_changed m g v ≡ true
 changes_more m f g v more changed =
     let by = changed_by m f v changed in
     changed_if m g v by.0 by.1 (more by.0 by.1 by.2 by.3) by.3

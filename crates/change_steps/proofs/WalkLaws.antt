@@ -147,11 +147,11 @@ pub popped_known : (p : HeldRollout) (w : Walk) (order : List ℕ) (step : ℕ) 
     w.order.items ≡ order ++ step ∷ [] → step < step_count p.rollout
 popped_known p w order step is same =
     subst (λ (k : ℕ). k < step_count p.rollout) (get_or_at (order_behind_first p order) step [] 0 (length (order_behind_first p order)) refl)
-    (line (length (order_behind_first p order)) 0 (let count = length_push (order_behind_first p order) step in omega (arith, count)))
+    (beginning (length (order_behind_first p order)) 0 (let count = length_push (order_behind_first p order) step in omega (arith, count)))
   where
-    line : All (λ k. k < step_count p.rollout) (order_behind_first p order ++ step ∷ [])
-    line = subst (λ (xs : List ℕ). All (λ k. k < step_count p.rollout) xs)
-        (ap (order_behind_first p) same ∙ sym (append_assoc (first_steps p.rollout p.held) order (step ∷ []))) is.search.line.known
+    beginning : All (λ k. k < step_count p.rollout) (order_behind_first p order ++ step ∷ [])
+    beginning = subst (λ (xs : List ℕ). All (λ k. k < step_count p.rollout) xs)
+        (ap (order_behind_first p) same ∙ sym (append_assoc (first_steps p.rollout p.held) order (step ∷ []))) is.search.beginning.known
 
 way_pop : (p : HeldRollout) (w : Walk) (order : List ℕ) (step : ℕ) → IsSearchWalk p w → w.order.items ≡ order ++ step ∷ [] →
     set (way_state p w.order.items) step false ≡ way_state p order
@@ -167,7 +167,7 @@ way_pop p w order step is same =
     new = elim (cases_Bool (is_one_of (order_behind_first p order) step)) [
       | inl has ↦ absurd (has_lacks (order_behind_first p order) step (one_of_has (order_behind_first p order) step has)
           (none_twice_seam (order_behind_first p order) step []
-          (subst NoneTwice (ap (order_behind_first p) same ∙ sym (append_assoc (first_steps p.rollout p.held) order (step ∷ []))) is.search.line.once)))
+          (subst NoneTwice (ap (order_behind_first p) same ∙ sym (append_assoc (first_steps p.rollout p.held) order (step ∷ []))) is.search.beginning.once)))
       | inr not ↦ not
     ]
 

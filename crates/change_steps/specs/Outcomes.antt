@@ -11,7 +11,7 @@ use Rattle.change_steps.specs.declared.found.Outcome.TheVariants.{Order, NoOrder
 use Rattle.change_steps.specs.declared.found.Steps.{Steps}
 use Rattle.change_steps.specs.declared.kinds.Kind.TheVariants.{Between}
 use Rattle.change_steps.specs.Rollouts.{Rollout, step_count}
-use Rattle.change_steps.specs.Orders.{IsOnlyIn, IsSafe, IsSafeLine, IsSafeOrder, AreHeld}
+use Rattle.change_steps.specs.Orders.{IsOnlyIn, IsSafe, IsSafeBeginning, IsSafeOrder, AreHeld}
 use Rattle.change_steps.specs.Kinds.{first_steps, comes_between, kind_of_step, steps_between}
 use Rattle.change_steps.specs.States.{AreTested, AreAllReached, IsAnotherReached, MayFollow, marks_of}
 
@@ -22,7 +22,7 @@ done_count marks = count_by (λ done. done) marks
 -- steps that can be done safely one after another, the first steps first and then some between: their state is the
 -- first of the greatest safe states that were tested
 pub record IsGreatest (r : Rollout) (held : List ℕ) (tested : List (List Bool)) (done : List ℕ) : Type 0 where
-  pub line : IsSafeLine r held done
+  pub beginning : IsSafeBeginning r held done
   pub rest : List ℕ
   pub begin : done ≡ first_steps r held ++ rest
   pub between : All (λ k. kind_of_step r held k ≡ Between) rest

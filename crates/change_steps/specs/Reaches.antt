@@ -10,15 +10,15 @@ use Rattle.area_graph.specs.Paths.{IsPathOf}
 use Rattle.area_graph.specs.Costs.{at_costs, cost}
 use Rattle.design_problem.specs.Problems.{request_at, request_ends}
 use Rattle.change_steps.specs.declared.reach.Reach.{Reach}
-use Rattle.change_steps.specs.Rollouts.{CostMoves, Rollout, lines_of_step, step_count}
+use Rattle.change_steps.specs.Rollouts.{CostMoves, Rollout, variables_of_step, step_count}
 use Rattle.change_steps.specs.Orders.{costs_in}
 use Rattle.change_steps.specs.Kinds.{rises}
 
 -- the price is the cost of one of these variables
 abbrev pub has_price : List ℕ → Price → Bool
-has_price lines (Fixed c) = false
-has_price lines (Var v) = is_one_of lines v
-has_price lines Zero = false
+has_price variables (Fixed c) = false
+has_price variables (Var v) = is_one_of variables v
+has_price variables Zero = false
 
 -- the wanted price is greater than the present one
 abbrev pub price_rises : CostMoves → Price → Bool
@@ -28,7 +28,7 @@ price_rises m Zero = false
 
 -- the edges whose costs a step changes
 unfoldable pub edges_of_step : Rollout → ℕ → List ℕ
-edges_of_step r k = filter (λ e. has_price (lines_of_step r.moves k) (edge_at r.graph e).price) (numbers_from 0 (length r.graph.edges))
+edges_of_step r k = filter (λ e. has_price (variables_of_step r.moves k) (edge_at r.graph e).price) (numbers_from 0 (length r.graph.edges))
 
 -- the lesser of the present and the wanted cost, than which no state has less
 abbrev pub least_cost : CostMoves → ℕ → ℕ

@@ -14,8 +14,8 @@ pub record CostMoves : Type 0 where
   pub steps : List (List ℕ)
 
 -- the variables that a step changes; none past the end
-abbrev pub lines_of_step : CostMoves → ℕ → List ℕ
-lines_of_step m k = slice_index_or m.steps k []
+abbrev pub variables_of_step : CostMoves → ℕ → List ℕ
+variables_of_step m k = slice_index_or m.steps k []
 
 -- an interface cost has 16 bits and isn't 0 (RFC 2328, A.4.3)
 abbrev pub IsInterfaceCost : ℕ → Type 0
@@ -26,8 +26,8 @@ pub record AreMoves (m : CostMoves) : Type 0 where
   pub count : length m.wanted ≡ length m.present
   pub present : All IsInterfaceCost m.present
   pub wanted : All IsInterfaceCost m.wanted
-  pub known : All (λ lines. All (λ v. v < length m.present) lines) m.steps
-  pub once : (i j v : ℕ) → Has (lines_of_step m i) v → Has (lines_of_step m j) v → i ≡ j
+  pub known : All (λ variables. All (λ v. v < length m.present) variables) m.steps
+  pub once : (i j v : ℕ) → Has (variables_of_step m i) v → Has (variables_of_step m j) v → i ≡ j
 
 -- a rollout: the graph of an area, the requests with their wanted paths, and the moves of the graph's variables
 pub record Rollout : Type 0 where

@@ -9,7 +9,7 @@ use Rattle.change_steps.specs.declared.kinds.Kind.TheVariants.{Between}
 use Rattle.change_steps.specs.declared.reach.Reach.{Reach}
 use Rattle.change_steps.specs.declared.state.State.{State}
 use Rattle.change_steps.specs.Rollouts.{IsRollout, Rollout, step_count}
-use Rattle.change_steps.specs.Orders.{AreHeld, IsSafe, IsSafeLine, costs_in}
+use Rattle.change_steps.specs.Orders.{AreHeld, IsSafe, IsSafeBeginning, costs_in}
 use Rattle.change_steps.specs.Kinds.{comes_between, comes_last, first_steps, kind_of_step, lies_on_held}
 use Rattle.change_steps.specs.Outcomes.{IsBarrier, IsGreatest}
 use Rattle.change_steps.specs.States.{AreTested, MayFollow, marks_of}
@@ -30,8 +30,8 @@ pub record HeldRollout : Type 0 where
   pub rollout : Rollout
   pub held : List ℕ
 
--- what a plan keeps: the held paths, the kind of each step, and what the steps may take from the held paths
-pub record IsPlan (p : HeldRollout) (kinds : List Kind) (reach : Reach) : Type 0 where
+-- what a held rollout keeps: the held paths, the kind of each step, and what the steps may take from the held paths
+pub record IsHeldRollout (p : HeldRollout) (kinds : List Kind) (reach : Reach) : Type 0 where
   pub rollout : IsRollout p.rollout
   pub held : AreHeld p.rollout p.held
   pub same : kinds ≡ map (kind_of_step p.rollout p.held) (numbers_from 0 (step_count p.rollout))
@@ -70,7 +70,7 @@ IsOnWay p order marks = (d : ℕ) × (d ≤ length order) × (marks ≡ way_stat
 -- what a search keeps: its way is safe and tested; of each state on the way the steps before the one that was gone on
 -- with were tested; each other safe state was tested with all that may follow
 pub record IsSearch (p : HeldRollout) (s : Position) : Type 0 where
-  pub line : IsSafeLine p.rollout p.held (order_behind_first p s.order)
+  pub beginning : IsSafeBeginning p.rollout p.held (order_behind_first p s.order)
   pub between : All (λ k. kind_of_step p.rollout p.held k ≡ Between) s.order
   pub are : AreTested p.rollout p.held s.tested
   pub on_way : (d : ℕ) → d ≤ length s.order → Contains s.tested (way_state p (take d s.order))

@@ -5,12 +5,12 @@ ghost use Rattle.cost_base.specs.Lists.{numbers_from};
 ghost use Rattle.cost_base.specs.Marks.{is_marked};
 ghost use Rattle.spf_ties.specs.Distances.{IsRoomFor};
 ghost use Rattle.design_problem.specs.Problems.{request_at};
-ghost use Rattle.change_steps.specs.Rollouts.{IsRollout, lines_of_step, step_count};
+ghost use Rattle.change_steps.specs.Rollouts.{IsRollout, variables_of_step, step_count};
 ghost use Rattle.change_steps.specs.Orders.{AreHeld, IsSafe, IsOnlyIn};
 ghost use Rattle.change_steps.specs.Kinds.{comes_between, goes_over, has_kind, kind_of_step};
 ghost use Rattle.change_steps.specs.States.{MayFollow};
 ghost use Rattle.change_steps.specs.Outcomes.{IsFirstLost};
-ghost use Rattle.change_steps.specs.Search.{HasMore, HeldRollout, IsStateOf};
+ghost use Rattle.change_steps.specs.Search.{HasMore, IsStateOf};
 
 use crate::held::find_held;
 use crate::kinds::{Kind, is_kind, kinds_of};
@@ -24,21 +24,21 @@ use std::marker::Model;
 
 /// A rollout with the paths that it has to hold. Contracts see both.
 #[derive(Drop)]
-pub(crate) struct Plan<'a> {
+pub(crate) struct HeldRollout<'a> {
     rollout: Rollout<'a>,
     held: Vec<u32>,
     kinds: Vec<Kind>,
     reach: Reach,
 }
 
-impl<'a> Model for Plan<'a> {
-    ghost use Rattle.change_steps.specs.Search.{HeldRollout, IsPlan};
+impl<'a> Model for HeldRollout<'a> {
+    ghost use Rattle.change_steps.specs.Search.{HeldRollout as OneHeldRollout, IsHeldRollout};
 
-    ghost Value = { HeldRollout };
+    ghost Value = { OneHeldRollout };
 
     ghost view = { λ p. record { rollout = p.rollout; held = p.held.items } };
 
-    ghost invariant = { λ p. IsPlan (record {
+    ghost invariant = { λ p. IsHeldRollout (record {
       rollout = p.rollout;
       held = p.held.items;
     }) p.kinds.items p.reach };
@@ -52,23 +52,23 @@ fn kind_at(kinds: &[Kind], step: usize) -> Kind
     kinds[step]
 }
 
-impl<'a> Plan<'a> {
-    /// The plan of a rollout.
+impl<'a> HeldRollout<'a> {
+    /// The rollout with the paths that it has to hold.
     pub fn new(
         alloc: Global,
         rollout: Rollout<'a>,
         room: &mut Room,
-    ) -> Result<Plan<'a>, OutOfMemory>
+    ) -> Result<HeldRollout<'a>, OutOfMemory>
         requires { IsRoomFor rollout.graph room.old }
         ensures room { IsRoomFor rollout.entry.graph room.new }
-        ensures plan { IfOk result (λ plan. plan.rollout ≡ rollout.entry) }
-        ensures held { IfOk result (λ plan. AreHeld rollout.entry plan.held) }
+        ensures rollout { IfOk result (λ held_rollout. held_rollout.rollout ≡ rollout.entry) }
+        ensures held { IfOk result (λ held_rollout. AreHeld rollout.entry held_rollout.held) }
     {
         rollout.keeps_conditions();
         let held = find_held(alloc, &rollout, room)?;
         let kinds = kinds_of(alloc, &rollout, &held)?;
         let reach = Reach::new(alloc, &rollout, &held, &kinds, room)?;
-        Ok(Plan {
+        Ok(HeldRollout {
             rollout,
             held,
             kinds,
@@ -76,8 +76,8 @@ impl<'a> Plan<'a> {
         })
     }
 
-    /// For the prover alone, a law of each plan, which takes no time: it keeps the conditions of its rollout, and its
-    /// held paths are those of the rollout.
+    /// For the prover alone, a law of each held rollout, which takes no time: it keeps the conditions of its rollout,
+    /// and its held paths are those of the rollout.
     pub fn keeps_conditions(&self)
         ensures rollout { IsRollout self.now.rollout }
         ensures held { AreHeld self.now.rollout self.now.held }
@@ -103,7 +103,7 @@ impl<'a> Plan<'a> {
     pub fn into_held(self) -> Vec<u32>
         ensures { result.items ≡ self.entry.held }
     {
-        let Plan {
+        let HeldRollout {
             rollout: _,
             held,
             kinds: _,

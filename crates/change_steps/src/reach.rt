@@ -8,7 +8,7 @@ ghost use Rattle.change_steps.specs.Rollouts.{step_count};
 ghost use Rattle.change_steps.specs.Search.{IsStateOf};
 ghost use Rattle.change_steps.specs.Reaches.{AreLeastToEach, AreDearerOver, AreLeastTo, IsHarmless, IsReach, least_from_to, edges_of_step, has_price, least_cost, least_costs, price_rises};
 
-use crate::kinds::{Kind, is_kind, line_rises};
+use crate::kinds::{Kind, is_kind, variable_rises};
 use crate::rollout::Rollout;
 use crate::state::State;
 use area_graph::{FAR, Graph, Point, Price, edge_of, path_cost, price_of};
@@ -26,11 +26,11 @@ pub(crate) struct Reach {
 }
 
 /// Whether a price is the cost of one of these variables.
-fn has_price(lines: &[u32], price: Price) -> bool
-    ensures { result ≡ has_price lines.now price }
+fn has_price(variables: &[u32], price: Price) -> bool
+    ensures { result ≡ has_price variables.now price }
 {
     match price {
-        Price::Var(line) => lines.contains(&line),
+        Price::Var(variable) => variables.contains(&variable),
         Price::Fixed(_) | Price::Zero => false,
     }
 }
@@ -42,23 +42,23 @@ fn edges_of_step(alloc: Global, rollout: &Rollout, step: usize) -> Result<Vec<u3
     ensures { IfOk result (λ edges. edges.items ≡ edges_of_step rollout.now step) }
 {
     rollout.keeps_conditions();
-    let lines = rollout.lines(step);
+    let variables = rollout.variables(step);
     let mut edges = Vec::new(alloc);
     for number in 0..rollout.edge_count() {
         let edge = edge_of(rollout.graph(), number);
-        push_if(&mut edges, number, has_price(lines, edge.price))?;
+        push_if(&mut edges, number, has_price(variables, edge.price))?;
     }
     Ok(edges)
 }
 
 /// The least cost of a variable in any state.
-fn least_cost(rollout: &Rollout, line: usize) -> u16
-    requires { line < length rollout.now.moves.present }
-    ensures { result ≡ least_cost rollout.now.moves line }
+fn least_cost(rollout: &Rollout, variable: usize) -> u16
+    requires { variable < length rollout.now.moves.present }
+    ensures { result ≡ least_cost rollout.now.moves variable }
 {
     rollout.keeps_conditions();
-    let present = rollout.present()[line];
-    let wanted = rollout.wanted()[line];
+    let present = rollout.present()[variable];
+    let wanted = rollout.wanted()[variable];
     if present < wanted { present } else { wanted }
 }
 
@@ -68,8 +68,8 @@ fn least_costs(alloc: Global, rollout: &Rollout) -> Result<Point, OutOfMemory>
     ensures { IfOk result (λ point. point ≡ at_costs (least_costs rollout.now.moves)) }
 {
     let mut values = Vec::new(alloc);
-    for line in 0..rollout.present().len() {
-        values.push(least_cost(rollout, line) as u128)?;
+    for variable in 0..rollout.present().len() {
+        values.push(least_cost(rollout, variable) as u128)?;
     }
     Ok(Point {
         scale: 1,
@@ -260,7 +260,7 @@ fn price_rises(rollout: &Rollout, price: Price) -> bool
     ensures { result ≡ price_rises rollout.now.moves price }
 {
     match price {
-        Price::Var(line) => line_rises(rollout, line),
+        Price::Var(variable) => variable_rises(rollout, variable),
         Price::Fixed(_) | Price::Zero => false,
     }
 }

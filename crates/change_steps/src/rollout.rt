@@ -3,7 +3,7 @@ ghost use Rattle.std.specs.Prelude.{◌≡◌, ◌<◌, ◌≤◌, All, length};
 ghost use Rattle.area_graph.specs.Costs.{IsPriced};
 ghost use Rattle.design_problem.specs.Problems.{request_at};
 ghost use Rattle.rival_separation.specs.Askers.{ArePathsOf};
-ghost use Rattle.change_steps.specs.Rollouts.{AreMoves, IsRollout, lines_of_step, step_count};
+ghost use Rattle.change_steps.specs.Rollouts.{AreMoves, IsRollout, variables_of_step, step_count};
 
 use crate::moves::Moves;
 use area_graph::Graph;
@@ -106,14 +106,14 @@ impl<'a> Rollout<'a> {
     }
 
     /// The variables that a step changes.
-    pub fn lines(&self, step: usize) -> &[u32]
+    pub fn variables(&self, step: usize) -> &[u32]
         requires { step < step_count self.now }
-        ensures { result.now ≡ lines_of_step self.now.moves step }
+        ensures { result.now ≡ variables_of_step self.now.moves step }
     {
         let moves = self.moves;
         let steps = moves.steps.as_slice();
-        let lines = &steps[step];
-        lines.as_slice()
+        let variables = &steps[step];
+        variables.as_slice()
     }
 
     /// The present costs.

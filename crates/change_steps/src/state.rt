@@ -2,7 +2,7 @@
 ghost use Rattle.std.specs.Prelude.{◌≡◌, ◌↔◌, ◌<◌, ℕ, All, IfOk, IsTrue, cond, false, length, slice_index, slice_set, true};
 ghost use Rattle.cost_base.specs.Marks.{is_marked, is_one_of};
 ghost use Rattle.spf_ties.specs.Distances.{IsRoomFor};
-ghost use Rattle.change_steps.specs.Rollouts.{lines_of_step, step_count};
+ghost use Rattle.change_steps.specs.Rollouts.{variables_of_step, step_count};
 ghost use Rattle.change_steps.specs.Orders.{IsOnlyIn, all_done, none_done};
 ghost use Rattle.change_steps.specs.States.{marks_of};
 ghost use Rattle.change_steps.specs.Search.{IsStateOf};
@@ -22,15 +22,15 @@ pub(crate) struct State {
 }
 
 /// Gives the variables of a step these costs.
-fn put(values: &mut Listed<u128>, lines: &[u32], costs: &[u16])
-    requires known { All (λ v. v < length values.old) lines.now }
+fn put(values: &mut Listed<u128>, variables: &[u32], costs: &[u16])
+    requires known { All (λ v. v < length values.old) variables.now }
     requires costs { length costs.now ≡ length values.old }
     ensures count { length values.new ≡ length values.old }
-    ensures put { (v : ℕ) → slice_index values.new v ≡ cond (is_one_of lines.now v)
+    ensures put { (v : ℕ) → slice_index values.new v ≡ cond (is_one_of variables.now v)
         (slice_index costs.now v) (slice_index values.old v) }
 {
-    for line in lines {
-        let place = *line as usize;
+    for variable in variables {
+        let place = *variable as usize;
         values.set(place, costs[place] as u128);
     }
 }
@@ -86,7 +86,7 @@ impl State {
         rollout.keeps_conditions();
         put(
             &mut self.point.values,
-            rollout.lines(step),
+            rollout.variables(step),
             rollout.wanted(),
         );
         self.done[step] = true;
@@ -102,7 +102,7 @@ impl State {
         rollout.keeps_conditions();
         put(
             &mut self.point.values,
-            rollout.lines(step),
+            rollout.variables(step),
             rollout.present(),
         );
         self.done[step] = false;

@@ -9,7 +9,7 @@ ghost use Rattle.change_steps.specs.States.{MayFollow, marks_of};
 ghost use Rattle.change_steps.specs.Search.{AllLack, IsNewStep, IsStateOf, longer_of};
 ghost use Rattle.change_steps.specs.Walks.{IsBegun, IsWalkEnded, IsAfterRound, IsUnderWay, IsSearchWalk, position_of};
 
-use crate::held_rollout::Plan;
+use crate::held_rollout::HeldRollout;
 use crate::kinds::Kind;
 use crate::state::State;
 use crate::tested::Tested;
@@ -59,24 +59,24 @@ fn is_new(tested: &Tested, marks: &mut Vec<bool>, step: usize) -> bool
 }
 
 /// The state of the first steps.
-fn first_state(alloc: Global, plan: &Plan) -> Result<State, OutOfMemory>
-    ensures state { IfOk result (IsStateOf plan.now.rollout) }
-    ensures done { IfOk result (λ state. state.done.items ≡ marks_of plan.now.rollout
-        (is_one_of (first_steps plan.now.rollout plan.now.held))) }
+fn first_state(alloc: Global, held_rollout: &HeldRollout) -> Result<State, OutOfMemory>
+    ensures state { IfOk result (IsStateOf held_rollout.now.rollout) }
+    ensures done { IfOk result (λ state. state.done.items ≡ marks_of held_rollout.now.rollout
+        (is_one_of (first_steps held_rollout.now.rollout held_rollout.now.held))) }
 {
     let mut first = Vec::new(alloc);
-    plan.put_steps(&mut first, Kind::First)?;
-    State::after(alloc, plan.rollout(), &first)
+    held_rollout.put_steps(&mut first, Kind::First)?;
+    State::after(alloc, held_rollout.rollout(), &first)
 }
 
 impl Walk {
     /// A search that stands at the state of the first steps, which counts as tested.
-    pub fn begin(alloc: Global, plan: &Plan, room: Room) -> Result<Walk, OutOfMemory>
-        requires { IsRoomFor plan.now.rollout.graph room }
-        ensures { IfOk result (IsBegun plan.now) }
+    pub fn begin(alloc: Global, held_rollout: &HeldRollout, room: Room) -> Result<Walk, OutOfMemory>
+        requires { IsRoomFor held_rollout.now.rollout.graph room }
+        ensures { IfOk result (IsBegun held_rollout.now) }
     {
-        plan.keeps_conditions();
-        let state = first_state(alloc, plan)?;
+        held_rollout.keeps_conditions();
+        let state = first_state(alloc, held_rollout)?;
         let mut tested = Tested::new(alloc);
         tested.add(alloc, &state.done)?;
         Ok(Walk {
@@ -90,23 +90,25 @@ impl Walk {
     }
 
     /// Whether a step may follow, and its state wasn't tested.
-    fn may_try(&mut self, plan: &Plan, step: usize) -> bool
+    fn may_try(&mut self, held_rollout: &HeldRollout, step: usize) -> bool
         // The state and the step are ones of the rollout.
-        requires state { IsStateOf plan.now.rollout self.old.state }
-        requires known { step < step_count plan.now.rollout }
+        requires state { IsStateOf held_rollout.now.rollout self.old.state }
+        requires known { step < step_count held_rollout.now.rollout }
 
         // The walk stands where it stood, with the same steps done.
-        ensures state { IsStateOf plan.now.rollout self.new.state }
+        ensures state { IsStateOf held_rollout.now.rollout self.new.state }
         ensures done { self.new.state.done.items ≡ self.old.state.done.items }
         ensures position { position_of self.new ≡ position_of self.old }
         ensures room { self.new.room ≡ self.old.room }
 
         // Where a step may follow and isn't to be tried, the state after it was tested.
-        ensures new { MatchBool result (IsNewStep plan.now self.old.tested self.old.state.done.items
-            step) (MayFollow plan.now.rollout plan.now.held self.old.state.done.items step →
+        ensures new { MatchBool result
+            (IsNewStep held_rollout.now self.old.tested self.old.state.done.items step)
+            (MayFollow held_rollout.now.rollout held_rollout.now.held
+            self.old.state.done.items step →
             Contains self.old.tested (slice_set self.old.state.done.items step true)) }
     {
-        if plan.may_follow(&self.state.done, step) {
+        if held_rollout.may_follow(&self.state.done, step) {
             is_new(&self.tested, &mut self.state.done, step)
         } else {
             false
@@ -114,22 +116,22 @@ impl Walk {
     }
 
     /// The next step whose state has to be tested.
-    fn find_next(&mut self, plan: &Plan) -> Option<usize>
-        requires walk { IsSearchWalk plan.now self.old }
-        ensures walk { IsSearchWalk plan.now self.new }
+    fn find_next(&mut self, held_rollout: &HeldRollout) -> Option<usize>
+        requires walk { IsSearchWalk held_rollout.now self.old }
+        ensures walk { IsSearchWalk held_rollout.now self.new }
         ensures order { self.new.order.items ≡ self.old.order.items }
         ensures tested { self.new.tested ≡ self.old.tested }
-        ensures next { MatchOption result (self.new.next ≡ step_count plan.now.rollout)
-            (λ step. (self.new.next ≡ step) × IsNewStep plan.now self.new.tested
+        ensures next { MatchOption result (self.new.next ≡ step_count held_rollout.now.rollout)
+            (λ step. (self.new.next ≡ step) × IsNewStep held_rollout.now self.new.tested
             self.new.state.done.items step) }
     {
-        for step in self.next..plan.step_count() {
-            if self.may_try(plan, step) {
+        for step in self.next..held_rollout.step_count() {
+            if self.may_try(held_rollout, step) {
                 self.next = step;
                 return Some(step);
             }
         }
-        self.next = plan.step_count();
+        self.next = held_rollout.step_count();
         None
     }
 
@@ -156,57 +158,62 @@ impl Walk {
     }
 
     /// Tests the state after a step, and goes on from it where it is safe.
-    fn test(&mut self, alloc: Global, plan: &Plan, step: usize) -> Result<bool, OutOfMemory>
+    fn test(
+        &mut self,
+        alloc: Global,
+        held_rollout: &HeldRollout,
+        step: usize,
+    ) -> Result<bool, OutOfMemory>
         // The walk stands at the step, which leads to a state that wasn't tested.
-        requires walk { IsSearchWalk plan.now self.old }
+        requires walk { IsSearchWalk held_rollout.now self.old }
         requires next { self.old.next ≡ step }
-        requires new { IsNewStep plan.now self.old.tested self.old.state.done.items step }
+        requires new { IsNewStep held_rollout.now self.old.tested self.old.state.done.items step }
 
         // That state is tested then, whether it is safe or not.
-        ensures walk { IfOk result (λ safe. IsSearchWalk plan.now self.new) }
+        ensures walk { IfOk result (λ safe. IsSearchWalk held_rollout.now self.new) }
         ensures tested { IfOk result (λ safe. self.new.tested ≡ self.old.tested ++
             slice_set self.old.state.done.items step true ∷ []) }
 
         // Where it is safe the walk goes on there, and its way is longer by one step at most.
-        ensures safe { IfOk result (λ safe. IsTrue safe ↔ IsSafe plan.now.rollout plan.now.held
-            (is_marked (slice_set self.old.state.done.items step true))) }
+        ensures safe { IfOk result (λ safe. IsTrue safe ↔ IsSafe held_rollout.now.rollout
+            held_rollout.now.held (is_marked (slice_set self.old.state.done.items step true))) }
         ensures here { IfOk result (λ safe. IsTrue safe → self.new.state.done.items ≡
             slice_set self.old.state.done.items step true) }
         ensures order { IfOk result (λ safe. length self.new.order.items ≤
             length self.old.order.items + 1) }
     {
-        self.state.do_step(plan.rollout(), step);
+        self.state.do_step(held_rollout.rollout(), step);
         self.tested.add(alloc, &self.state.done)?;
-        let safe = plan.is_safe_after(&self.state, step, &mut self.room);
+        let safe = held_rollout.is_safe_after(&self.state, step, &mut self.room);
         if safe {
             self.go_on(step)?;
         } else {
-            self.state.undo_step(plan.rollout(), step);
+            self.state.undo_step(held_rollout.rollout(), step);
             self.next = step + 1;
         }
         Ok(safe)
     }
 
     /// Goes back to the state before the last step, if there is one.
-    fn go_back(&mut self, plan: &Plan) -> bool
+    fn go_back(&mut self, held_rollout: &HeldRollout) -> bool
         // No step is left to try at the walk's state.
-        requires walk { IsSearchWalk plan.now self.old }
-        requires next { self.old.next ≡ step_count plan.now.rollout }
+        requires walk { IsSearchWalk held_rollout.now self.old }
+        requires next { self.old.next ≡ step_count held_rollout.now.rollout }
 
         // The walk is still one of a search, with the same tested states.
-        ensures walk { IsSearchWalk plan.now self.new }
+        ensures walk { IsSearchWalk held_rollout.now self.new }
         ensures tested { self.new.tested ≡ self.old.tested }
 
         // The way is shorter by a step, or it is empty and nothing is left to try.
         ensures order { MatchBool result (length self.new.order.items + 1 ≡
             length self.old.order.items) (self.new.order.items ≡ []) }
-        ensures next { MatchBool result ⊤ (self.new.next ≡ step_count plan.now.rollout) }
+        ensures next { MatchBool result ⊤ (self.new.next ≡ step_count held_rollout.now.rollout) }
     {
         // For the prover: that a step's number plus 1 fits a `usize` is known once the number of steps is read.
-        let _few = plan.step_count();
+        let _few = held_rollout.step_count();
         match self.order.pop() {
             Some(step) => {
-                self.state.undo_step(plan.rollout(), step);
+                self.state.undo_step(held_rollout.rollout(), step);
                 self.next = step + 1;
                 true
             }
@@ -218,36 +225,36 @@ impl Walk {
     fn try_step(
         &mut self,
         alloc: Global,
-        plan: &Plan,
+        held_rollout: &HeldRollout,
         nodes: u32,
         step: usize,
     ) -> Result<Option<End>, OutOfMemory>
-        requires walk { IsUnderWay plan.now nodes self.old }
+        requires walk { IsUnderWay held_rollout.now nodes self.old }
         requires next { self.old.next ≡ step }
-        requires new { IsNewStep plan.now self.old.tested self.old.state.done.items step }
-        ensures { IfOk result (IsAfterRound plan.now nodes self.old self.new) }
+        requires new { IsNewStep held_rollout.now self.old.tested self.old.state.done.items step }
+        ensures { IfOk result (IsAfterRound held_rollout.now nodes self.old self.new) }
     {
         if nodes as usize <= self.tested.len() {
             return Ok(Some(End::UsedUp));
         }
-        let safe = self.test(alloc, plan, step)?;
+        let safe = self.test(alloc, held_rollout, step)?;
         if !safe {
             return Ok(None);
         }
-        match plan.first_left(&self.state.done) {
+        match held_rollout.first_left(&self.state.done) {
             Some(_) => Ok(None),
             None => Ok(Some(End::Complete)),
         }
     }
 
     /// Goes back, where all steps that may follow were tried. At the beginning the search ends.
-    fn retreat(&mut self, plan: &Plan) -> Option<End>
-        requires walk { (nodes : ℕ) × IsUnderWay plan.now nodes self.old }
-        requires next { self.old.next ≡ step_count plan.now.rollout }
-        ensures { (nodes : ℕ) → IsUnderWay plan.now nodes self.old →
-            IsAfterRound plan.now nodes self.old self.new result }
+    fn retreat(&mut self, held_rollout: &HeldRollout) -> Option<End>
+        requires walk { (nodes : ℕ) × IsUnderWay held_rollout.now nodes self.old }
+        requires next { self.old.next ≡ step_count held_rollout.now.rollout }
+        ensures { (nodes : ℕ) → IsUnderWay held_rollout.now nodes self.old →
+            IsAfterRound held_rollout.now nodes self.old self.new result }
     {
-        if self.go_back(plan) {
+        if self.go_back(held_rollout) {
             None
         } else {
             Some(End::Exhausted)
@@ -255,35 +262,50 @@ impl Walk {
     }
 
     /// One round of the search: tests a state, or goes back.
-    fn round(&mut self, alloc: Global, plan: &Plan, nodes: u32) -> Result<Option<End>, OutOfMemory>
-        requires { IsUnderWay plan.now nodes self.old }
-        ensures { IfOk result (IsAfterRound plan.now nodes self.old self.new) }
+    fn round(
+        &mut self,
+        alloc: Global,
+        held_rollout: &HeldRollout,
+        nodes: u32,
+    ) -> Result<Option<End>, OutOfMemory>
+        requires { IsUnderWay held_rollout.now nodes self.old }
+        ensures { IfOk result (IsAfterRound held_rollout.now nodes self.old self.new) }
     {
-        match self.find_next(plan) {
-            Some(step) => self.try_step(alloc, plan, nodes, step),
-            None => Ok(self.retreat(plan)),
+        match self.find_next(held_rollout) {
+            Some(step) => self.try_step(alloc, held_rollout, nodes, step),
+            None => Ok(self.retreat(held_rollout)),
         }
     }
 
     /// Takes rounds until the search ends.
-    fn take_rounds(&mut self, alloc: Global, plan: &Plan, nodes: u32) -> Result<End, OutOfMemory>
-        requires { IsUnderWay plan.now nodes self.old }
-        ensures { IfOk result (IsWalkEnded plan.now nodes self.new) }
+    fn take_rounds(
+        &mut self,
+        alloc: Global,
+        held_rollout: &HeldRollout,
+        nodes: u32,
+    ) -> Result<End, OutOfMemory>
+        requires { IsUnderWay held_rollout.now nodes self.old }
+        ensures { IfOk result (IsWalkEnded held_rollout.now nodes self.new) }
     {
         loop {
-            if let Some(end) = self.round(alloc, plan, nodes)? {
+            if let Some(end) = self.round(alloc, held_rollout, nodes)? {
                 return Ok(end);
             }
         }
     }
 
     /// Searches until all steps between are done, each state that can be reached was tested, or the budget is used up.
-    pub fn search(&mut self, alloc: Global, plan: &Plan, nodes: u32) -> Result<End, OutOfMemory>
-        requires { IsBegun plan.now self.old }
-        ensures { IfOk result (IsWalkEnded plan.now nodes self.new) }
+    pub fn search(
+        &mut self,
+        alloc: Global,
+        held_rollout: &HeldRollout,
+        nodes: u32,
+    ) -> Result<End, OutOfMemory>
+        requires { IsBegun held_rollout.now self.old }
+        ensures { IfOk result (IsWalkEnded held_rollout.now nodes self.new) }
     {
-        match plan.first_left(&self.state.done) {
-            Some(_) => self.take_rounds(alloc, plan, nodes),
+        match held_rollout.first_left(&self.state.done) {
+            Some(_) => self.take_rounds(alloc, held_rollout, nodes),
             None => Ok(End::Complete),
         }
     }

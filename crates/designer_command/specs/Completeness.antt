@@ -38,7 +38,7 @@ use Rattle.least_conflict.specs.Laws.{IsSufficientForSets}
 use Rattle.least_total.specs.Totals.{IsFormWithin, LeadsWithin, forms_within}
 use Rattle.least_change.specs.Laws.{IsSufficientForChanges}
 use Rattle.change_commands.specs.Changes.{MayChange, question_of}
-use Rattle.change_commands.specs.Plans.{Plan, plan_read, rollout_of, first_line_fault}
+use Rattle.change_commands.specs.WantedMoves.{StepsInput, steps_read, rollout_of, first_line_fault}
 use Rattle.change_commands.specs.Steps.{MaySteps}
 use Rattle.change_steps.specs.Kinds.{steps_between}
 use Rattle.change_steps.specs.Rollouts.{Rollout}
@@ -193,12 +193,12 @@ ChangesAreFound =
     × (IsSufficientForChanges (question_of limits d) → IsRunSettled d.problem end)
 
 -- `steps` ends Done where its steps have a safe order for the held paths, Impossible where they have none, never else
-pub record AreStepsSettled (by : StepUnit) (plan : Plan) (lines : List CostLine) (end : Status) : Type 0 where
+pub record AreStepsSettled (by : StepUnit) (handed : StepsInput) (lines : List CostLine) (end : Status) : Type 0 where
   pub held : List ℕ
-  pub are_held : AreHeld (rollout_of by plan.input lines) held
+  pub are_held : AreHeld (rollout_of by handed.input lines) held
   pub either : (end ≡ status.Done) ⊎ (end ≡ status.Impossible)
-  pub order : (order : List ℕ) → IsSafeOrder (rollout_of by plan.input lines) held order → end ≡ status.Done
-  pub none : ((order : List ℕ) → IsSafeOrder (rollout_of by plan.input lines) held order → ⊥) → end ≡ status.Impossible
+  pub order : (order : List ℕ) → IsSafeOrder (rollout_of by handed.input lines) held order → end ≡ status.Done
+  pub none : ((order : List ℕ) → IsSafeOrder (rollout_of by handed.input lines) held order → ⊥) → end ≡ status.Impossible
 
 -- the budget of states can't be used up by `steps`: there are at least as many as sets of the steps between
 abbrev pub IsSufficientForSteps : ℕ → Rollout → Type 0
@@ -208,11 +208,11 @@ IsSufficientForSteps nodes r = (held : List ℕ) → AreHeld r held → 2 ^ leng
 -- write nothing but what it found: that is settled where the budget can't be used up.
 abbrev pub StepsAreFound : Type 0
 StepsAreFound =
-    (nodes : ℕ) (by : StepUnit) (names : InputFiles) (answer : List ℕ) (came : List Taken) (plan : Plan) (lines : List CostLine)
-    (end : Status) (bytes : List ℕ) → EndsAs (plan_read names answer) came (Says plan) → SaysCosts plan.bytes (Some lines) →
-    first_line_fault plan.input.database lines ≡ None → MayAfter (plan_read names answer) (MaySteps nodes by) came end bytes →
+    (nodes : ℕ) (by : StepUnit) (names : InputFiles) (answer : List ℕ) (came : List Taken) (handed : StepsInput) (lines : List CostLine)
+    (end : Status) (bytes : List ℕ) → EndsAs (steps_read names answer) came (Says handed) → SaysCosts handed.bytes (Some lines) →
+    first_line_fault handed.input.database lines ≡ None → MayAfter (steps_read names answer) (MaySteps nodes by) came end bytes →
     ((end ≡ status.Done) ⊎ (end ≡ status.Impossible) ⊎ (end ≡ status.Undecided))
-    × (IsSufficientForSteps nodes (rollout_of by plan.input lines) → AreStepsSettled by plan lines end)
+    × (IsSufficientForSteps nodes (rollout_of by handed.input lines) → AreStepsSettled by handed lines end)
 
 -- Where the files of `lsas` say a problem, and each configuration a router ID of its own, nothing may be written but
 -- the LSAs.

@@ -112,7 +112,7 @@ decided_by_all d items i next other range step within all =
         ap (λ n. unwrap_or (last_said d link (drop n items)) range) step
         ∙ sym (from_all d link items i other range AsItIs within all) ∙ range_is d link items AsItIs
 
--- once all lines were asked, the links that are undecided are fixed
+-- once all lines were asked, the links that have no range are fixed
 pub decided_by_none : (d : Database) (items : List DirectiveLine) →
     map (λ said. unwrap_or said AsItIs) (map (λ link. last_said d link items) d.links)
     ≡ map (λ link. range_by d link items) d.links

@@ -44,7 +44,7 @@ fn said_of_all(directive: &Directive) -> Option<Range>
     }
 }
 
-/// Decides the range of the link of an interface, if it is undecided.
+/// Gives the link of an interface a range, if it has none yet.
 fn decide(
     names: &Names,
     router: &[u8],
@@ -68,7 +68,7 @@ fn decide(
     }
 }
 
-/// Decides the range of the link that a line names, if it is undecided.
+/// Gives the link that a line names a range, if it has none yet.
 fn decide_named(names: &Names, directive: &Directive, decided: &mut Vec<Option<Range>>)
     ensures { (f : LinkValue → Option Range) → decided.old.items ≡ map f names.now.links →
         decided.new.items ≡ map (λ link. option_or (f link)
@@ -99,7 +99,7 @@ fn decide_named(names: &Names, directive: &Directive, decided: &mut Vec<Option<R
     }
 }
 
-/// Decides ranges from the last line back to one that frees all links; the range of those that stay undecided.
+/// Gives ranges from the last line back to one that frees all links; the range of those that have none then.
 fn decide_lines(names: &Names, items: &[DirectiveLine], decided: &mut Vec<Option<Range>>) -> Range
     requires { decided.old.items ≡ map (λ link. None) names.now.links }
     ensures { map (λ said. unwrap_or said result) decided.new.items ≡
@@ -116,13 +116,13 @@ fn decide_lines(names: &Names, items: &[DirectiveLine], decided: &mut Vec<Option
 }
 
 /// No range for each link.
-fn undecided(alloc: Global, names: &Names) -> Result<Vec<Option<Range>>, OutOfMemory>
+fn no_ranges(alloc: Global, names: &Names) -> Result<Vec<Option<Range>>, OutOfMemory>
     ensures { IfOk result (λ made. made.items ≡ map (λ link. None) names.now.links) }
 {
     Ok(vec![in alloc; None; names.links().len()]?)
 }
 
-/// The ranges, of which those that are undecided are one.
+/// The ranges; for the links that have none, this one.
 fn ranges_or(
     alloc: Global,
     decided: &[Option<Range>],
@@ -148,7 +148,7 @@ pub fn ranges_by(
     ensures { IfOk result (λ ranges. ranges.items ≡ map (λ link. range_by names.now link items.now)
         names.now.links) }
 {
-    let mut decided = undecided(alloc, names)?;
+    let mut decided = no_ranges(alloc, names)?;
     let other = decide_lines(names, items, &mut decided);
     ranges_or(alloc, &decided, other)
 }

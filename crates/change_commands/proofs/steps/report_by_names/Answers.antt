@@ -12,10 +12,10 @@ use Rattle.report_writer.specs.declared.report.Report.{Report}
 use Rattle.report_writer.specs.Reports.{bytes_in}
 use Rattle.present_costs.specs.AtCosts.{graph_by_links}
 use Rattle.sections_reader.specs.declared.fault.CostsFault.{CostsFault}
-use Rattle.change_commands.specs.Plans.{IsPlanOf, Plan, first_line_fault, moves_between, with_lines}
+use Rattle.change_commands.specs.WantedMoves.{IsStepsInputOf, StepsInput, first_line_fault, moves_between, with_lines}
 use Rattle.change_commands.specs.Steps.{MaySteps, ReportsSteps}
 use Rattle.sections_reader.specs.Texts.{SaysCosts}
-use Rattle.change_commands.proofs.PlanLaws.{lines_above, lines_length}
+use Rattle.change_commands.proofs.WantedMoveLaws.{lines_above, lines_length}
 use Rattle.change_commands.proofs.StepRuns.{faulty, refused_may, shown}
 use Rattle.change_commands.proofs.steps.report_by_names.Goals as goal
 
@@ -60,10 +60,10 @@ returns-in-Ok c =
     IfOk-weaker c.report_of_wanted.result
     (λ (report : Report). ReportsSteps c.args.words.nodes c.args.words.by names
     (record { graph = graph_by_links network.lsdb; requests = network.problem.requests; moves = moves }) report)
-    (λ (report : Report). (plan : Plan) → IsPlanOf network plan → SaysCosts plan.bytes (Some lines) →
-    MaySteps c.args.words.nodes c.args.words.by plan report.status (bytes_in report.text))
-    (λ report reports plan is said.
-    shown c.args.words.nodes c.args.words.by plan network lines names present c.in-Ok.wanted.items moves report is said c.requires.names
+    (λ (report : Report). (handed : StepsInput) → IsStepsInputOf network handed → SaysCosts handed.bytes (Some lines) →
+    MaySteps c.args.words.nodes c.args.words.by handed report.status (bytes_in report.text))
+    (λ report reports handed is said.
+    shown c.args.words.nodes c.args.words.by handed network lines names present c.in-Ok.wanted.items moves report is said c.requires.names
     c.in_ok-present.ensures w.0 (w.1 ∙ ap (λ (ps : List ℕ). with_lines names ps lines) c.deref.ensures.value) refl reports)
     c.report_of_wanted.ensures
 
@@ -73,8 +73,8 @@ returns-in-Err c =
     let lines = c.args.lines.now in
     let network = c.args.network.now in
     IfOk-weaker c.rejected.result _ _
-    (λ report reports plan is said. refused_may c.args.words.nodes c.args.words.by plan c.at.result report
-    (faulty plan network names lines c.in-Err.fault c.at.result is said c.requires.names
+    (λ report reports handed is said. refused_may c.args.words.nodes c.args.words.by handed c.at.result report
+    (faulty handed network names lines c.in-Err.fault c.at.result is said c.requires.names
     (at_fault names c.deref.result.now lines c.in_ok-wanted.field-0 c.in-Err.fault c.in-Err.is c.in_ok-wanted.ensures)
     (ap (λ (r : Rejection). r.number) c.at.ensures) (ap (λ (r : Rejection). r.place) c.at.ensures)) reports)
     c.rejected.ensures

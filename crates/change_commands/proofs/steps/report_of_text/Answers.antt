@@ -14,7 +14,7 @@ report_of_costs-requires-clause-lines c = said_fit.0 c.args.bytes.now c.in-Ok.co
 pub returns-in-Ok : goal.returns-in-Ok
 returns-in-Ok c =
     IfOk-weaker c.report_of_costs.result _ _
-    (λ report may plan is same. may plan is (subst (λ (bytes : List ℕ). SaysCosts bytes c.in-Ok.costs) (sym same) c.in-Ok.ensures.read))
+    (λ report may handed is same. may handed is (subst (λ (bytes : List ℕ). SaysCosts bytes c.in-Ok.costs) (sym same) c.in-Ok.ensures.read))
     c.report_of_costs.ensures
 
 pub returns-in_ok-rejection_of-in-Err : goal.returns-in_ok-rejection_of-in-Err
@@ -26,6 +26,6 @@ returns-in_ok-rejection_of-in-Err c =
     c.in_ok-rejection_of-in-Err.ensures
     (λ fault place told. record { fault = fault; refused = subst (IsReaderStop start 0 bytes) told c.in-Err.ensures.stopped; number = refl }) in
     IfOk-weaker c.rejected.result _ _
-    (λ report reports plan is same. refused_may c.args.words.nodes c.args.words.by plan rejection report
+    (λ report reports handed is same. refused_may c.args.words.nodes c.args.words.by handed rejection report
     (inl (subst (λ (bs : List ℕ). IsOffGrammar (start_of_bytes bs) bs rejection.number rejection.place) (sym same) off)) reports)
     c.rejected.ensures

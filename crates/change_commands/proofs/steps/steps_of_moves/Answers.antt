@@ -16,15 +16,15 @@ find_steps-steps-requires-clause-priced c =
 
 pub find_steps-steps-requires-clause-requests : goal.find_steps-steps-requires-clause-requests
 find_steps-steps-requires-clause-requests c =
-    subst (λ (graph : Area). ArePathsOf graph c.paths_of.result.now) (sym c.in_ok-graph.ensures)
-    (subst (λ (requests : List Request). ArePathsOf (graph_by_links c.args.network.now.lsdb) requests) (sym c.paths_of.ensures) c.requires.requests)
+    subst (λ (graph : Area). ArePathsOf graph c.requests_of.result.now) (sym c.in_ok-graph.ensures)
+    (subst (λ (requests : List Request). ArePathsOf (graph_by_links c.args.network.now.lsdb) requests) (sym c.requests_of.ensures) c.requires.requests)
 
 pub find_steps-steps-requires-clause-few : goal.find_steps-steps-requires-clause-few
-find_steps-steps-requires-clause-few c = subst (λ (requests : List Request). length requests ≤ 10000) (sym c.paths_of.ensures) c.requires.few
+find_steps-steps-requires-clause-few c = subst (λ (requests : List Request). length requests ≤ 10000) (sym c.requests_of.ensures) c.requires.few
 
 pub returns : goal.returns
 returns c =
     subst (λ (graph : Area). IfOk c.find_steps-steps.result (AreStepsFound
     (record { graph = graph; requests = c.args.network.now.problem.requests; moves = c.args.moves.now }) c.args.nodes)) c.in_ok-graph.ensures
     (subst (λ (requests : List Request). IfOk c.find_steps-steps.result (AreStepsFound
-    (record { graph = c.in_ok-graph.graph; requests = requests; moves = c.args.moves.now }) c.args.nodes)) c.paths_of.ensures c.find_steps-steps.ensures)
+    (record { graph = c.in_ok-graph.graph; requests = requests; moves = c.args.moves.now }) c.args.nodes)) c.requests_of.ensures c.find_steps-steps.ensures)

@@ -10,10 +10,10 @@ use Rattle.change_steps.proofs.ending.blocked_in.Given as goal
 
 abbrev pub invariant-loop-step : goal.invariant-loop-step
 invariant-loop-step l = record {
-  room : IsRoomFor l.plan.rollout.graph l.room;
-  state : IsStateOf l.plan.rollout l.state;
+  room : IsRoomFor l.held_rollout.rollout.graph l.room;
+  state : IsStateOf l.held_rollout.rollout l.state;
   done : l.state.done.items ≡ l.fn.state.done.items;
   steps : map (λ b. b.step) l.blocked.items ≡
-      filter (λ k. comes_between (kind_of_step l.plan.rollout l.plan.held k) && not (is_marked l.fn.state.done.items k)) (numbers_from 0 l.step);
-  each : All (λ b. IsBarrier l.plan.rollout l.plan.held l.tested (slice_set l.fn.state.done.items b.step true) b.by) l.blocked.items;
+      filter (λ k. comes_between (kind_of_step l.held_rollout.rollout l.held_rollout.held k) && not (is_marked l.fn.state.done.items k)) (numbers_from 0 l.step);
+  each : All (λ b. IsBarrier l.held_rollout.rollout l.held_rollout.held l.tested (slice_set l.fn.state.done.items b.step true) b.by) l.blocked.items;
 }

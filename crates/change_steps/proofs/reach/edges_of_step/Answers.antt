@@ -2,7 +2,7 @@ use Rattle.std.proofs.Common.{◌<◌, ◌∙◌, ◌++◌, ◌∷◌, ℕ, Bool
 use Rattle.cost_base.proofs.ListLemmas.{filter-numbers_from-push}
 use Rattle.area_graph.specs.declared.Edge.{Edge}
 use Rattle.area_graph.specs.Area.{Area, edge_at}
-use Rattle.change_steps.specs.Rollouts.{lines_of_step}
+use Rattle.change_steps.specs.Rollouts.{variables_of_step}
 use Rattle.change_steps.specs.Reaches.{has_price}
 use Rattle.change_steps.proofs.reach.edges_of_step.Goals as goal
 
@@ -20,7 +20,7 @@ loop-number-preserved c =
     let n = c.loop-number.number in
     let edges = c.loop-number.edges.items in
     let edge_is = c.edge_of-edge.ensures ∙ ap (λ (g : Area). edge_at g n) c.graph.ensures in
-    let test = sym (ap (λ (ls : List ℕ). has_price ls (edge_at r.graph n).price) (sym c.lines-lines.ensures)
-    ∙ ap (λ (x : Edge). has_price c.lines-lines.result.now x.price) (sym edge_is) ∙ sym c.has_price.ensures) in
-    filter-numbers_from-push (λ e. has_price (lines_of_step r.moves c.args.step) (edge_at r.graph e).price) n edges c.push_if.new.things.items
+    let test = sym (ap (λ (ls : List ℕ). has_price ls (edge_at r.graph n).price) (sym c.variables-variables.ensures)
+    ∙ ap (λ (x : Edge). has_price c.variables-variables.result.now x.price) (sym edge_is) ∙ sym c.has_price.ensures) in
+    filter-numbers_from-push (λ e. has_price (variables_of_step r.moves c.args.step) (edge_at r.graph e).price) n edges c.push_if.new.things.items
     c.loop-number.invariant (c.in_ok-push_if.ensures ∙ ap (λ (b : Bool). cond b (edges ++ n ∷ []) edges) test)

@@ -10,20 +10,20 @@ loop-step-init c = record {
   walk = c.requires.walk;
   order = refl;
   tested = refl;
-  explored = top_explored c.args.plan.now (position_of c.args.self.now) c.requires.walk.search;
+  explored = top_explored c.args.held_rollout.now (position_of c.args.self.now) c.requires.walk.search;
 }
 
 pub returns-then-may_try-clause-walk : goal.returns-then-may_try-clause-walk
 returns-then-may_try-clause-walk c =
-    walk_moves c.args.plan.now c.may_try.new.self c.loop-step.step
-    (walk_same c.args.plan.now c.loop-step.self c.may_try.new.self c.loop-step.invariant.walk c.may_try.ensures.state c.may_try.ensures.done
+    walk_moves c.args.held_rollout.now c.may_try.new.self c.loop-step.step
+    (walk_same c.args.held_rollout.now c.loop-step.self c.may_try.new.self c.loop-step.invariant.walk c.may_try.ensures.state c.may_try.ensures.done
     c.may_try.ensures.position c.may_try.ensures.room)
-    (subst (λ (s : Position). IsExplored c.args.plan.now s.tested (way_state c.args.plan.now s.order) c.loop-step.step) (sym c.may_try.ensures.position)
+    (subst (λ (s : Position). IsExplored c.args.held_rollout.now s.tested (way_state c.args.held_rollout.now s.order) c.loop-step.step) (sym c.may_try.ensures.position)
     c.loop-step.invariant.explored)
 
 pub returns-clause-walk : goal.returns-clause-walk
 returns-clause-walk c =
-    walk_moves c.args.plan.now c.loop-step.self _ c.loop-step.invariant.walk
-    (explored_less c.args.plan.now c.loop-step.self.tested (way_state c.args.plan.now c.loop-step.self.order.items) _ c.loop-step.step
+    walk_moves c.args.held_rollout.now c.loop-step.self _ c.loop-step.invariant.walk
+    (explored_less c.args.held_rollout.now c.loop-step.self.tested (way_state c.args.held_rollout.now c.loop-step.self.order.items) _ c.loop-step.step
     c.loop-step.invariant.explored (let past = c.loop-step-test.false in let first = c.step_count-step-end.ensures in let again = c.step_count-self.ensures in
     omega (arith, past, first, again)))

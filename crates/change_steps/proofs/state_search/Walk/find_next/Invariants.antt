@@ -5,8 +5,8 @@ use Rattle.change_steps.proofs.state_search.Walk.find_next.Given as goal
 
 abbrev pub invariant-loop-step : goal.invariant-loop-step
 invariant-loop-step l = record {
-  walk : IsSearchWalk l.plan l.self;
+  walk : IsSearchWalk l.held_rollout l.self;
   order : l.self.order.items ≡ l.fn.self.order.items;
   tested : l.self.tested ≡ l.fn.self.tested;
-  explored : IsExplored l.plan l.self.tested (way_state l.plan l.self.order.items) l.step;
+  explored : IsExplored l.held_rollout l.self.tested (way_state l.held_rollout l.self.order.items) l.step;
 }

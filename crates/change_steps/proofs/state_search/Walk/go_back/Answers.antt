@@ -8,12 +8,12 @@ use Rattle.change_steps.proofs.state_search.Walk.go_back.Goals as goal
 pub undo_step-requires-clause-step : goal.undo_step-requires-clause-step
 undo_step-requires-clause-step c =
     subst (λ (r : Rollout). c.in-Some.step < step_count r) (sym c.rollout.ensures)
-    (popped_known c.args.plan.now c.args.self.now c.pop.new.self.items c.in-Some.step c.requires.walk
+    (popped_known c.args.held_rollout.now c.args.self.now c.pop.new.self.items c.in-Some.step c.requires.walk
     (c.pop.ensures.items ∙ ap (λ (o : Option ℕ). c.pop.new.self.items ++ option_to_list o) c.in-Some.is))
 
 pub overflow_add-self : goal.overflow_add-self
 overflow_add-self c =
-    let known = popped_known c.args.plan.now c.args.self.now c.pop.new.self.items c.in-Some.step c.requires.walk
+    let known = popped_known c.args.held_rollout.now c.args.self.now c.pop.new.self.items c.in-Some.step c.requires.walk
     (c.pop.ensures.items ∙ ap (λ (o : Option ℕ). c.pop.new.self.items ++ option_to_list o) c.in-Some.is) in
     let few = c.step_count-few.ensures in
     let fits = c.step_count-few.type_inv in
@@ -21,7 +21,7 @@ overflow_add-self c =
 
 pub returns-in-Some-clause-walk : goal.returns-in-Some-clause-walk
 returns-in-Some-clause-walk c =
-    walk_backs c.args.plan.now c.args.self.now _ c.in-Some.step c.requires.walk c.requires.next
+    walk_backs c.args.held_rollout.now c.args.self.now _ c.in-Some.step c.requires.walk c.requires.next
     (c.pop.ensures.items ∙ ap (λ (o : Option ℕ). c.pop.new.self.items ++ option_to_list o) c.in-Some.is)
     (subst (λ (r : Rollout). IsStateOf r c.undo_step.new.self) c.rollout.ensures c.undo_step.ensures.state) c.undo_step.ensures.undone refl refl refl
     c.requires.walk.room
