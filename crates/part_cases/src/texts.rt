@@ -4,8 +4,8 @@ use case_scripts::bytes_of;
 use std::alloc::{AllocError, Global};
 use std::fmt;
 use text_lines::{
-    Line, Lines, LongLine, Words, cut, first_word, is_comment_word, is_separator,
-    kind_of, starts_with_blank, word_at, word_count,
+    Line, Lines, LongLine, Words, cut, first_word, is_comment_word, is_separator, kind_of,
+    starts_with_blank, word_at, word_count,
 };
 
 /// A line that was read.
