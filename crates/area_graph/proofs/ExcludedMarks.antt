@@ -19,7 +19,8 @@ marks_past excluded y marks are past e within =
     other same = omega arith
 
 -- one number more is excluded, and its mark is set
-pub marks_more : (excluded : List ℕ) (y : ℕ) (marks : List Bool) → AreEdgeMarks excluded marks → y < length marks → AreEdgeMarks (excluded ++ y ∷ []) (set marks y true)
+pub marks_more : (excluded : List ℕ) (y : ℕ) (marks : List Bool) → AreEdgeMarks excluded marks → y < length marks →
+    AreEdgeMarks (excluded ++ y ∷ []) (set marks y true)
 marks_more excluded y marks are known e within =
     elim (ℕ_discrete e y) [
       | yes same ↦ (λ clear. absurd (set_here same clear), λ lacks. absurd (lacks_seam excluded y [] e lacks same))

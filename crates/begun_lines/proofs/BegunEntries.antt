@@ -220,7 +220,8 @@ part_falls text rest room least row m below e = (λ no. absurd (cc), λ on. absu
 pub part_last : (text : List ℕ) (room least : ℕ) →
     ((row m : ℕ) (rest : List ℕ) → IsCoprimeInRange (rows_from 0) row → IsCoprimeInRange multiplier_range m →
     split 32 text ≢ decimal row ∷ decimal m ∷ split 32 rest) →
-    (r : Bool) → IsTrue r ↔ GoesOn (Then (IsNumberInRange (rows_from least)) (Alone (IsNumberInRange multiplier_range))) text room → IsTrue r ↔ GoesOn (PartsWords least) text room
+    (r : Bool) → IsTrue r ↔ GoesOn (Then (IsNumberInRange (rows_from least)) (Alone (IsNumberInRange multiplier_range))) text room →
+        IsTrue r ↔ GoesOn (PartsWords least) text room
 part_last text room least none r h = (λ is. forth (h.0 is), λ on. h.1 (back on.0 on.1.0 on.1.1 on.1.2 on.1.3 on.2))
   where
     one : List (List ℕ) → Type 0
@@ -235,7 +236,8 @@ part_last text room least none r h = (λ is. forth (h.0 is), λ on. h.1 (back on
     forth : GoesOn one text room → GoesOn (PartsWords least) text room
     forth on = (on.0, said (split 32 (text ++ on.0)) on.1, on.2)
 
-    from : (row m : ℕ) (ws : List (List ℕ)) → IsCoprimeInRange (rows_from least) row → IsCoprimeInRange multiplier_range m → ws ≡ decimal row ∷ decimal m ∷ [] → one ws
+    from : (row m : ℕ) (ws : List (List ℕ)) → IsCoprimeInRange (rows_from least) row → IsCoprimeInRange multiplier_range m → ws ≡ decimal row ∷ decimal m ∷ [] →
+        one ws
     from row m ws among positive e = subst one (sym e) ((row, among, refl), (m, positive, refl))
 
     ends : (row m : ℕ) (more : List ℕ) → IsCoprimeInRange (rows_from least) row → IsCoprimeInRange multiplier_range m → length more ≤ room →

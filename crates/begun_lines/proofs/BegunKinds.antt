@@ -346,5 +346,6 @@ begins_by_words part places left rest room size r h = (λ is. forth (h.0 is), λ
         )
 
 -- a line that is too long begins none
-pub too_long : (part : TreePart) (places left : ℕ) (rest : List ℕ) → 65536 < length rest → IsTrue false ↔ BeginsLawful (AtTree part (suc places) (suc left)) rest
+pub too_long : (part : TreePart) (places left : ℕ) (rest : List ℕ) → 65536 < length rest →
+    IsTrue false ↔ BeginsLawful (AtTree part (suc places) (suc left)) rest
 too_long part places left rest long = (λ no. absurd (cc), λ on. absurd (omega (arith, long, on.1.1.short, length-append rest on.0)))

@@ -87,7 +87,8 @@ pub line_taken : (d : Database) (present : List ℕ) (lines : List CostLine) (i 
     AreTakenTo d present lines (i + 1) new_costs new_seen
 line_taken d present lines i costs seen line new_costs new_seen taken within at is =
     let l = link_of_line d line in
-    let next : drop i lines ≡ line ∷ drop (i + 1) lines = at_drop_more (λ ls. ls) lines i line within ∙ ap (λ (x : CostLine). x ∷ drop (i + 1) lines) (sym at) in
+    let next : drop i lines ≡ line ∷ drop (i + 1) lines = at_drop_more (λ ls. ls) lines i line within ∙
+        ap (λ (x : CostLine). x ∷ drop (i + 1) lines) (sym at) in
     record {
       before = l ∷ taken.before;
       marked = subst (AreSeen (l ∷ taken.before)) (sym is.2) (marked_more taken.before seen l (omega (arith, is.3, taken.seen_count)) taken.marked);
@@ -97,7 +98,8 @@ line_taken d present lines i costs seen line new_costs new_seen taken within at 
       rest = ap (λ (cs : List ℕ). with_lines d cs (drop (i + 1) lines)) is.1 ∙ sym (ap (with_lines d costs) next) ∙ taken.rest;
     }
   where
-    no_fault : (f : Option CostsFault) → f ≡ None → or_first f (first_fault_after d (link_of_line d line ∷ taken.before) (drop (i + 1) lines)) ≡ first_fault_after d (link_of_line d line ∷ taken.before) (drop (i + 1) lines)
+    no_fault : (f : Option CostsFault) → f ≡ None → or_first f (first_fault_after d (link_of_line d line ∷ taken.before) (drop (i + 1) lines)) ≡
+        first_fault_after d (link_of_line d line ∷ taken.before) (drop (i + 1) lines)
     no_fault None is = refl
     no_fault (Some fault) is = absurd cc
 
@@ -106,7 +108,8 @@ pub line_refused : (d : Database) (present : List ℕ) (lines : List CostLine) (
     (line : CostLine) (fault : CostsFault) (taken : AreTakenTo d present lines i costs seen) →
     i < length lines → line ≡ get_or lines i line → line_fault d taken.before line ≡ Some fault → first_line_fault d lines ≡ Some fault
 line_refused d present lines i costs seen line fault taken within at is =
-    let next : drop i lines ≡ line ∷ drop (i + 1) lines = at_drop_more (λ ls. ls) lines i line within ∙ ap (λ (x : CostLine). x ∷ drop (i + 1) lines) (sym at) in
+    let next : drop i lines ≡ line ∷ drop (i + 1) lines = at_drop_more (λ ls. ls) lines i line within ∙
+        ap (λ (x : CostLine). x ∷ drop (i + 1) lines) (sym at) in
     sym taken.fault ∙ ap (first_fault_after d taken.before) next
     ∙ ap (λ f. or_first f (first_fault_after d (link_of_line d line ∷ taken.before) (drop (i + 1) lines))) is
 
@@ -234,7 +237,8 @@ routers_rise links moved a (suc n) =
     with_step (links_of_router links moved a)
     (λ v has. eqb-true (router_of links v) a (passes (λ l. router_of links l == a) moved v has)) (routers_rise links moved (a + 1) n)
   where
-    with_step : (ls : List ℕ) → ((v : ℕ) → Has ls v → router_of links v ≡ a) → RiseFrom (router_of links) (a + 1) (router_steps links moved (numbers_from (a + 1) n)) →
+    with_step : (ls : List ℕ) → ((v : ℕ) → Has ls v → router_of links v ≡ a) →
+        RiseFrom (router_of links) (a + 1) (router_steps links moved (numbers_from (a + 1) n)) →
         RiseFrom (router_of links) a (cons_option (if_some ls) (router_steps links moved (numbers_from (a + 1) n)))
     with_step [] each rest = rise_lower (router_of links) a (a + 1) (router_steps links moved (numbers_from (a + 1) n)) (omega arith) rest
     with_step (l ∷ ls) each rest = (a, omega arith, each, rest)

@@ -45,7 +45,8 @@ complete_order p w order rollout held is same = subst (λ (xs : List ℕ). IsSaf
     (beginning_ends p.rollout p.held (order_behind_first p w.order.items) rollout held is.walk.search.beginning
     (λ k has. elim (one_of_both (first_steps p.rollout p.held) w.order.items k has) [
       | inl first ↦ first_not_last (kind_of_step p.rollout p.held k) (that_passes p.rollout (λ i. comes_first (kind_of_step p.rollout p.held i)) k first).1
-      | inr between ↦ ap comes_last (all_has (λ i. kind_of_step p.rollout p.held i ≡ Between) w.order.items k is.walk.search.between (one_of_has w.order.items k between))
+      | inr between ↦ ap comes_last (all_has (λ i. kind_of_step p.rollout p.held i ≡ Between) w.order.items k is.walk.search.between
+          (one_of_has w.order.items k between))
     ])
     (λ k within not_last. elim (cases_Bool (is_one_of (order_behind_first p w.order.items) k)) [
       | inl has ↦ has
@@ -113,7 +114,8 @@ pub unblocked_step : (marks : List Bool) (p : HeldRollout) (blocked : List Block
     (comes_between (kind_of_step p.rollout p.held n) && not (is_marked marks n)) ≡ false →
     map (λ (x : Blocked). x.step) blocked ≡ filter (λ k. comes_between (kind_of_step p.rollout p.held k) && not (is_marked marks k)) (numbers_from 0 n) →
     map (λ (x : Blocked). x.step) blocked ≡ filter (λ k. comes_between (kind_of_step p.rollout p.held k) && not (is_marked marks k)) (numbers_from 0 (n + 1))
-unblocked_step marks p blocked n test so_far = so_far ∙ sym (passing_no (λ k. comes_between (kind_of_step p.rollout p.held k) && not (is_marked marks k)) n test)
+unblocked_step marks p blocked n test so_far = so_far ∙ sym (passing_no (λ k. comes_between (kind_of_step p.rollout p.held k) && not (is_marked marks k)) n
+    test)
 
 -- none of the first 0 is blocked
 pub none_blocked : (p : HeldRollout) (marks : List Bool) (blocked : List Blocked) → blocked ≡ [] →

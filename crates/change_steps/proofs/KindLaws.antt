@@ -51,7 +51,8 @@ pub last_variables : (r : Rollout) (held : List ℕ) (k v : ℕ) → kind_of_ste
 unfolding kind_of_step
 last_variables r held k v is has =
     let all = last_test (list_all (rises_off_held r held) (variables_of_step r.moves k)) (list_all (falls_off_held r held) (variables_of_step r.moves k)) is in
-    let parts = and_parts (not (rises r.moves v)) (not (lies_on_held r held v)) (list_all_has (falls_off_held r held) (variables_of_step r.moves k) v all has) in
+    let parts = and_parts (not (rises r.moves v)) (not (lies_on_held r held v)) (list_all_has (falls_off_held r held) (variables_of_step r.moves k) v all has)
+        in
     (not-true (rises r.moves v) parts.0, not-true (lies_on_held r held v) parts.1)
 
 -- the kind by both tests
@@ -71,7 +72,8 @@ kind_by_none false false is other = refl
 
 pub first_kind : (r : Rollout) (held : List ℕ) (k : ℕ) → list_all (rises_off_held r held) (variables_of_step r.moves k) ≡ true → First ≡ kind_of_step r held k
 unfolding kind_of_step
-first_kind r held k is = kind_by (list_all (rises_off_held r held) (variables_of_step r.moves k)) (list_all (falls_off_held r held) (variables_of_step r.moves k)) is
+first_kind r held k is = kind_by (list_all (rises_off_held r held) (variables_of_step r.moves k))
+    (list_all (falls_off_held r held) (variables_of_step r.moves k)) is
 
 pub last_kind : (r : Rollout) (held : List ℕ) (k : ℕ) → list_all (rises_off_held r held) (variables_of_step r.moves k) ≡ false →
     list_all (falls_off_held r held) (variables_of_step r.moves k) ≡ true → Last ≡ kind_of_step r held k

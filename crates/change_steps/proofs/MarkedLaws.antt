@@ -61,7 +61,8 @@ path_known r k is within =
 
 -- Held paths.
 
-pub held_none_marked : (r : Rollout) (marks : List Bool) → length marks ≡ length r.moves.present → ((v : ℕ) → get_or marks v false ≡ false) → AreHeldMarks r [] marks
+pub held_none_marked : (r : Rollout) (marks : List Bool) → length marks ≡ length r.moves.present → ((v : ℕ) → get_or marks v false ≡ false) →
+    AreHeldMarks r [] marks
 unfolding lies_on_held
 held_none_marked r marks count none = record { count = count; told = λ v within. none v ∙ nothing v }
   where
@@ -95,19 +96,23 @@ off_held : (r : Rollout) (held : List ℕ) (marks : List Bool) (v : ℕ) → Are
     not (lies_on_held r held v) ≡ true
 off_held r held marks v are known left = not_from_false (lies_on_held r held v) (sym (are.told v known) ∙ left)
 
-pub risen_more : (r : Rollout) (held : List ℕ) (marks : List Bool) (variables : List ℕ) (i : ℕ) → i < length variables → get_or variables i 0 < length r.moves.present →
+pub risen_more : (r : Rollout) (held : List ℕ) (marks : List Bool) (variables : List ℕ) (i : ℕ) → i < length variables →
+    get_or variables i 0 < length r.moves.present →
     AreHeldMarks r held marks → rises r.moves (get_or variables i 0) ≡ true → get_or marks (get_or variables i 0) false ≡ false →
     list_all (rises_off_held r held) (take i variables) ≡ true → list_all (rises_off_held r held) (take (i + 1) variables) ≡ true
 risen_more r held marks variables i within known are rise left so_far =
     all_more (rises_off_held r held) variables i within so_far
-    (and_from (rises r.moves (get_or variables i 0)) (not (lies_on_held r held (get_or variables i 0))) rise (off_held r held marks (get_or variables i 0) are known left))
+    (and_from (rises r.moves (get_or variables i 0)) (not (lies_on_held r held (get_or variables i 0))) rise
+        (off_held r held marks (get_or variables i 0) are known left))
 
-pub fallen_more : (r : Rollout) (held : List ℕ) (marks : List Bool) (variables : List ℕ) (i : ℕ) → i < length variables → get_or variables i 0 < length r.moves.present →
+pub fallen_more : (r : Rollout) (held : List ℕ) (marks : List Bool) (variables : List ℕ) (i : ℕ) → i < length variables →
+    get_or variables i 0 < length r.moves.present →
     AreHeldMarks r held marks → rises r.moves (get_or variables i 0) ≡ false → get_or marks (get_or variables i 0) false ≡ false →
     list_all (falls_off_held r held) (take i variables) ≡ true → list_all (falls_off_held r held) (take (i + 1) variables) ≡ true
 fallen_more r held marks variables i within known are fall left so_far =
     all_more (falls_off_held r held) variables i within so_far
-    (and_from (not (rises r.moves (get_or variables i 0))) (not (lies_on_held r held (get_or variables i 0))) (not_from_false (rises r.moves (get_or variables i 0)) fall)
+    (and_from (not (rises r.moves (get_or variables i 0))) (not (lies_on_held r held (get_or variables i 0)))
+        (not_from_false (rises r.moves (get_or variables i 0)) fall)
     (off_held r held marks (get_or variables i 0) are known left))
 
 -- a variable of another kind, and one that is on a held path
@@ -147,7 +152,8 @@ follows_by r held marks k known test =
 pub follows_test : (r : Rollout) (held : List ℕ) (marks : List Bool) (k : ℕ) → MayFollow r held marks k →
     (comes_between (kind_of_step r held k) && not (is_marked marks k)) ≡ true
 follows_test r held marks k follows =
-    and_from (comes_between (kind_of_step r held k)) (not (is_marked marks k)) (ap comes_between follows.between) (not_from_false (is_marked marks k) follows.left)
+    and_from (comes_between (kind_of_step r held k)) (not (is_marked marks k)) (ap comes_between follows.between)
+        (not_from_false (is_marked marks k) follows.left)
 
 -- none of the first n, and one more
 pub none_follow_more : (r : Rollout) (held : List ℕ) (marks : List Bool) (n : ℕ) → ((k : ℕ) → k < n → MayFollow r held marks k → ⊥) →

@@ -27,7 +27,8 @@ core r held steps k = done_by (kind_of_step r held k) (is_one_of steps k)
 
 -- it is as safe as the list
 core_safe : (r : Rollout) (held steps : List ℕ) → IsRollout r → IsSafe r held (is_one_of steps) → IsSafe r held (core r held steps)
-core_safe r held steps is safe = eased_safe r held (is_one_of steps) (core r held steps) is (λ k within. by_kind (kind_of_step r held k) (is_one_of steps k)) safe
+core_safe r held steps is safe = eased_safe r held (is_one_of steps) (core r held steps) is (λ k within. by_kind (kind_of_step r held k) (is_one_of steps k))
+    safe
   where
     by_kind : (kind : Kind) (told : Bool) → (told ≡ done_by kind told)
         ⊎ (((told ≡ false) × (done_by kind told ≡ true) × (kind ≡ First)) ⊎ ((told ≡ true) × (done_by kind told ≡ false) × (kind ≡ Last)))
@@ -47,7 +48,8 @@ core_begin r held = marks_agree r (λ k. comes_first (kind_of_step r held k)) (c
     by_kind Last = refl
 
 -- a step that is first, last or there already changes nothing
-core_stays : (r : Rollout) (held steps : List ℕ) (step : ℕ) → (done_by (kind_of_step r held step) true ≡ done_by (kind_of_step r held step) (is_one_of steps step)) →
+core_stays : (r : Rollout) (held steps : List ℕ) (step : ℕ) → (done_by (kind_of_step r held step) true ≡
+    done_by (kind_of_step r held step) (is_one_of steps step)) →
     marks_of r (core r held (steps ++ step ∷ [])) ≡ marks_of r (core r held steps)
 core_stays r held steps step same = marks_agree r (core r held (steps ++ step ∷ [])) (core r held steps) (λ k within. elim (cases_eq k step) [
   | inl is ↦
@@ -123,8 +125,10 @@ no_order r held tested is begin all lacking order safe =
     let whole : take (length order) order ≡ order = take_all (length order) order (omega arith) in
     let here = core_tested r held order tested is begin all safe (length order) (omega arith) in
     let at : get_or tested here.0 [] ≡ marks_of r (core r held order) =
-    get_or_default tested here.0 [] (marks_of r (core r held (take (length order) order))) here.1 ∙ here.2 ∙ ap (λ (xs : List ℕ). marks_of r (core r held xs)) whole in
-    let order_safe : IsSafe r held (is_one_of order) = subst (λ (xs : List ℕ). IsSafe r held (is_one_of xs)) whole (safe.beginning.safe (length order) (omega arith)) in
+    get_or_default tested here.0 [] (marks_of r (core r held (take (length order) order))) here.1 ∙ here.2 ∙
+        ap (λ (xs : List ℕ). marks_of r (core r held xs)) whole in
+    let order_safe : IsSafe r held (is_one_of order) = subst (λ (xs : List ℕ). IsSafe r held (is_one_of xs)) whole
+        (safe.beginning.safe (length order) (omega arith)) in
     let lacks = lacking here.0 here.1 (marks_safe r held (core r held order) (get_or tested here.0 []) at (core_safe r held order is order_safe)) in
     both_ways (is_one_of order lacks.0)
     (sym (ap (λ (kind : Kind). done_by kind (is_one_of order lacks.0)) lacks.1.between)

@@ -148,7 +148,8 @@ beginning_push r held xs k beginning known new safe = record {
   known = All-push (λ i. i < step_count r) xs k beginning.known known;
   once = none_twice_push xs k beginning.once (lacks_unless xs k (λ has. both_ways (is_one_of xs k) new (has_one_of xs k has)));
   safe = λ n within. elim (cases_lt (length xs) n) [
-    | inl whole ↦ subst (λ (ys : List ℕ). IsSafe r held (is_one_of ys)) (sym (take_all n (xs ++ k ∷ []) (let count = length-append xs (k ∷ []) in omega (arith, count, whole)))) safe
+    | inl whole ↦ subst (λ (ys : List ℕ). IsSafe r held (is_one_of ys)) (sym (take_all n (xs ++ k ∷ [])
+        (let count = length-append xs (k ∷ []) in omega (arith, count, whole)))) safe
     | inr front ↦ subst (λ (ys : List ℕ). IsSafe r held (is_one_of ys)) (sym (take-append-le n xs (k ∷ []) front)) (beginning.safe n front)
   ];
 }

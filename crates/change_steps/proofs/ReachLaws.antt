@@ -83,7 +83,8 @@ least_fits r is = record {
         (is.moves.wanted v 0 (let count = is.moves.count in omega (arith, count, near))))
 
 -- at them a path costs no more than in a state
-least_paid : (r : Rollout) (done : ℕ → Bool) (es : List ℕ) → cost r.graph (at_costs (least_costs r.moves)) es ≤ cost r.graph (at_costs (costs_in r.moves done)) es
+least_paid : (r : Rollout) (done : ℕ → Bool) (es : List ℕ) → cost r.graph (at_costs (least_costs r.moves)) es ≤ cost r.graph (at_costs (costs_in r.moves done))
+    es
 least_paid r done es = pays_more r.graph (at_costs (least_costs r.moves)) (at_costs (costs_in r.moves done)) es
     (λ e. price_le (least_costs r.moves) (costs_in r.moves done) (edge_at r.graph e).price (λ v price. least_below r.moves done v))
 
@@ -138,7 +139,8 @@ at_least_more g p n least row count are is = λ target. elim (cases_lt target n)
 
 pub step_edges_known : (r : Rollout) (step : ℕ) → All (λ e. e < length r.graph.edges) (edges_of_step r step)
 unfolding edges_of_step
-step_edges_known r step = all_kept (λ e. e < length r.graph.edges) (λ e. has_price (variables_of_step r.moves step) (edge_at r.graph e).price) 0 (length r.graph.edges)
+step_edges_known r step = all_kept (λ e. e < length r.graph.edges) (λ e. has_price (variables_of_step r.moves step) (edge_at r.graph e).price) 0
+    (length r.graph.edges)
     (λ e above below has. omega (arith, below))
 
 pub step_edges : (r : Rollout) (reach : Reach) (step : ℕ) → IsReach r reach → step < step_count r → get_or reach.edges step [] ≡ edges_of_step r step
@@ -175,9 +177,11 @@ pub dearer_over : (r : Rollout) (done : ℕ → Bool) (least : List (List ℕ)) 
     AreDearerOver r done k e
 dearer_over r done least k e mine is are same less = λ other path has.
     let over = costs_over r.graph (at_costs (costs_in r.moves done)) (request_ends (request_at r.requests k)) e
-    (least_from_to least (request_at r.requests k).path.start (edge_at r.graph e).from) (least_from_to least (edge_at r.graph e).to (request_at r.requests k).end)
+    (least_from_to least (request_at r.requests k).path.start (edge_at r.graph e).from) (least_from_to least (edge_at r.graph e).to
+        (request_at r.requests k).end)
     other is.graph path has
-    (λ way is_way. let low = are (edge_at r.graph e).from (request_at r.requests k).path.start way is_way in let up = least_paid r done way in omega (arith, low, up))
+    (λ way is_way. let low = are (edge_at r.graph e).from (request_at r.requests k).path.start way is_way in let up = least_paid r done way in
+        omega (arith, low, up))
     (λ way is_way. let low = are (request_at r.requests k).end (edge_at r.graph e).to way is_way in let up = least_paid r done way in omega (arith, low, up)) in
     omega (arith, over, less, same)
 
@@ -186,7 +190,8 @@ pub harmless_only : (r : Rollout) (f g : ℕ → Bool) (step k : ℕ) → IsRoll
     All (IsHarmless r g k) (edges_of_step r step) → IsOnlyIn r f k → IsOnlyIn r g k
 unfolding edges_of_step
 harmless_only r f g step k is more harmless only =
-    only_unless r.graph (at_costs (costs_in r.moves f)) (at_costs (costs_in r.moves g)) (request_ends (request_at r.requests k)) (request_at r.requests k).path.edges only
+    only_unless r.graph (at_costs (costs_in r.moves f)) (at_costs (costs_in r.moves g)) (request_ends (request_at r.requests k))
+        (request_at r.requests k).path.edges only
     (λ e has. price_le (costs_in r.moves g) (costs_in r.moves f) (edge_at r.graph e).price
     (λ v price. costs_le r.moves g f v (elim (cases_Bool (has_price (variables_of_step r.moves step) (edge_at r.graph e).price)) [
       | inl in' ↦ between_costs r.moves g f v
@@ -214,13 +219,16 @@ harmless_only r f g step k is more harmless only =
   where
     known : (e : ℕ) → Has (request_at r.requests k).path.edges e → e < length r.graph.edges
     known e has = all_has (λ i. i < length r.graph.edges) (request_at r.requests k).path.edges e
-        (joined_known r.graph (request_ends (request_at r.requests k)).start (request_at r.requests k).path.edges (request_ends (request_at r.requests k)).end only.path.simple.joins) has
+        (joined_known r.graph (request_ends (request_at r.requests k)).start (request_at r.requests k).path.edges (request_ends (request_at r.requests k)).end
+            only.path.simple.joins) has
 
     at : (e : ℕ) → e < length r.graph.edges → has_price (variables_of_step r.moves step) (edge_at r.graph e).price ≡ true → IsHarmless r g k e
-    at e within in' = kept_all (IsHarmless r g k) (λ x. has_price (variables_of_step r.moves step) (edge_at r.graph x).price) 0 (length r.graph.edges) harmless e
+    at e within in' = kept_all (IsHarmless r g k) (λ x. has_price (variables_of_step r.moves step) (edge_at r.graph x).price) 0 (length r.graph.edges) harmless
+        e
         (omega arith) (omega (arith, within)) in'
 
-    changed : (e v : ℕ) → (edge_at r.graph e).price ≡ Var v → has_price (variables_of_step r.moves step) (edge_at r.graph e).price ≡ true → is_changed r.moves g v ≡ true
+    changed : (e v : ℕ) → (edge_at r.graph e).price ≡ Var v → has_price (variables_of_step r.moves step) (edge_at r.graph e).price ≡ true →
+        is_changed r.moves g v ≡ true
     changed e v price in' = changed_if r.moves g v step more.known more.done
         (one_of_has (variables_of_step r.moves step) v (ap (has_price (variables_of_step r.moves step)) (sym price) ∙ in'))
 

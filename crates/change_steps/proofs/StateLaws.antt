@@ -27,7 +27,8 @@ pub point_is : (scale : ℕ) (values costs : List ℕ) → scale ≡ 1 → value
 point_is scale values costs one same = ap (λ (n : ℕ). let p : Point = record { scale = n; values = values } in p) one ∙ ap (λ (ws : List ℕ). at_costs ws) same
 
 -- the point of a state fits the graph
-pub point_fits : (r : Rollout) (g : Area) (marks : List Bool) (p : Point) → IsRollout r → g ≡ r.graph → p ≡ at_costs (costs_in r.moves (is_marked marks)) → FitsPoint g p
+pub point_fits : (r : Rollout) (g : Area) (marks : List Bool) (p : Point) → IsRollout r → g ≡ r.graph → p ≡ at_costs (costs_in r.moves (is_marked marks)) →
+    FitsPoint g p
 point_fits r g marks p is graph same =
     subst (λ (h : Area). FitsPoint h p) (sym graph) (subst (λ (q : Point). FitsPoint r.graph q) (sym same) (state_fits r (is_marked marks) is))
 
@@ -38,7 +39,8 @@ pub record ArePut (olds variables costs : List ℕ) (i : ℕ) (news : List ℕ) 
   pub count : length news ≡ length olds
   pub put : (v : ℕ) → get_or news v 0 ≡ cond (is_one_of (take i variables) v) (get_or costs v 0) (get_or olds v 0)
 
-pub put_more : (olds mids news variables costs : List ℕ) (i : ℕ) → i < length variables → get_or variables i 0 < length mids → ArePut olds variables costs i mids →
+pub put_more : (olds mids news variables costs : List ℕ) (i : ℕ) → i < length variables → get_or variables i 0 < length mids →
+    ArePut olds variables costs i mids →
     news ≡ set mids (get_or variables i 0) (get_or costs (get_or variables i 0) 0) → ArePut olds variables costs (i + 1) news
 put_more olds mids news variables costs i within known are is = record {
   count = ap length is ∙ length-set mids (get_or variables i 0) (get_or costs (get_or variables i 0) 0) ∙ are.count;
@@ -127,7 +129,8 @@ undo_costs r marks values old present variables step is known count old_is varia
       | inr lacks ↦
           put v ∙ cond-false (is_one_of variables v) (get_or present v 0) (get_or old v 0) lacks ∙ ap (λ (ws : List ℕ). get_or ws v 0) old_is
           ∙ cost_at r.moves (is_marked marks) v near
-          ∙ alike r.moves (is_marked marks) less v (same v (λ has. both_ways (is_one_of variables v) lacks (has_one_of variables v (subst (λ (xs : List ℕ). Has xs v) (sym variables_are) has))))
+          ∙ alike r.moves (is_marked marks) less v (same v (λ has. both_ways (is_one_of variables v) lacks
+              (has_one_of variables v (subst (λ (xs : List ℕ). Has xs v) (sym variables_are) has))))
           ∙ sym (cost_at r.moves less v near)
     ])
   where
@@ -148,7 +151,8 @@ undo_costs r marks values old present variables step is known count old_is varia
     others : (k : ℕ) → k ≢ step → is_marked (set marks step false) k ≡ is_marked marks k
     others k other = get_or-set_other marks step k false false other
 
-    same : (v : ℕ) → (Has (variables_of_step r.moves step) v → ⊥) → is_changed r.moves (is_marked marks) v ≡ is_changed r.moves (is_marked (set marks step false)) v
+    same : (v : ℕ) → (Has (variables_of_step r.moves step) v → ⊥) →
+        is_changed r.moves (is_marked marks) v ≡ is_changed r.moves (is_marked (set marks step false)) v
     same v away = same_test (is_changed r.moves (is_marked marks) v) (is_changed r.moves (is_marked (set marks step false)) v)
         (changes_more r.moves (is_marked marks) (is_marked (set marks step false)) v (λ k within done has.
         others k (λ at. away (subst (λ (i : ℕ). Has (variables_of_step r.moves i) v) at has)) ∙ done))

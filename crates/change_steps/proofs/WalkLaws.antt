@@ -49,7 +49,8 @@ walk_moves p w k is explored = record {
   search = search_moves p (position_of w) k is.search explored;
 }
 
-pub explored_less : (p : HeldRollout) (tested : List (List Bool)) (marks : List Bool) (m n : ℕ) → IsExplored p tested marks n → m ≤ n → IsExplored p tested marks m
+pub explored_less : (p : HeldRollout) (tested : List (List Bool)) (marks : List Bool) (m n : ℕ) → IsExplored p tested marks n → m ≤ n →
+    IsExplored p tested marks m
 explored_less p tested marks m n explored less = λ k below follows. explored k (omega (arith, below, less)) follows
 
 -- It begins.
@@ -57,7 +58,8 @@ explored_less p tested marks m n explored less = λ k below follows. explored k 
 pub firsts_are : (p : HeldRollout) (old xs : List ℕ) → old ≡ [] → xs ≡ old ++ first_steps p.rollout p.held → xs ≡ first_steps p.rollout p.held
 firsts_are p old xs none is = is ∙ ap (λ (ys : List ℕ). ys ++ first_steps p.rollout p.held) none
 
-pub walk_begins : (p : HeldRollout) (w : Walk) → IsRollout p.rollout → AreHeld p.rollout p.held → IsRoomFor p.rollout.graph w.room → IsStateOf p.rollout w.state →
+pub walk_begins : (p : HeldRollout) (w : Walk) → IsRollout p.rollout → AreHeld p.rollout p.held → IsRoomFor p.rollout.graph w.room →
+    IsStateOf p.rollout w.state →
     w.state.done.items ≡ marks_of p.rollout (is_one_of (first_steps p.rollout p.held)) → w.order.items ≡ [] → w.next ≡ 0 →
     w.tested ≡ w.state.done.items ∷ [] → w.greatest.items ≡ [] → IsBegun p w
 walk_begins p w rollout held room state done order next tested greatest = record {
@@ -179,7 +181,8 @@ walk_backs p w v step is end order state done next tested greatest room = record
   state = state;
   here = done ∙ ap (λ (m : List Bool). set m step false) is.here ∙ way_pop p w v.order.items step is order;
   search = subst (IsSearch p)
-      (sym (position_same (position_of v) (record { order = v.order.items; next = step + 1; tested = w.tested; greatest = w.greatest.items }) refl next tested greatest))
+      (sym (position_same (position_of v) (record { order = v.order.items; next = step + 1; tested = w.tested; greatest = w.greatest.items }) refl next tested
+          greatest))
       (search_backs p (position_of w) v.order.items step is.search order end);
 }
 

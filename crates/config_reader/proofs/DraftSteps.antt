@@ -153,7 +153,8 @@ opened_more heads i old new d within so_far drafts names = record {
     known : list_any (same_bytes head.name.now) old.names ≡ is_headed head.name.now (firsts [] hs)
     known = ap (list_any (same_bytes head.name.now)) so_far.names ∙ sym (any-map (same_bytes head.name.now) (λ (h : List ℕ × ℕ). h.0) (firsts [] hs))
 
-    firsts_now : firsts [] (map head_heard (take (i + 1) heads)) ≡ firsts [] hs ++ unless_known (list_any (same_bytes head.name.now) old.names) (head_heard head)
+    firsts_now : firsts [] (map head_heard (take (i + 1) heads)) ≡ firsts [] hs ++
+        unless_known (list_any (same_bytes head.name.now) old.names) (head_heard head)
     firsts_now = ap (firsts []) grown ∙ firsts-push [] hs (head_heard head) ∙ ap (λ b. firsts [] hs ++ unless_known b (head_heard head)) (sym known)
 
     drafts_by : (b : Bool) → list_any (same_bytes head.name.now) old.names ≡ b →

@@ -64,7 +64,8 @@ unfolding router_by
 router_by-cost name all s heads interface n block cost =
     cc (
       router_id_kept all s (ap is_of_router block),
-      map-agree (λ head. interface_as_set (all ++ s ∷ []) head.0 head.1) (λ head. with_cost ((interface, n) ∷ []) (interface_as_set all head.0 head.1)) heads one,
+      map-agree (λ head. interface_as_set (all ++ s ∷ []) head.0 head.1) (λ head. with_cost ((interface, n) ∷ []) (interface_as_set all head.0 head.1)) heads
+          one,
       map-map (with_cost ((interface, n) ∷ [])) (λ head. interface_as_set all head.0 head.1) heads,
     )
   where
@@ -140,7 +141,8 @@ cost_said_there n from to =
 
 -- a cost line behind the head of its interface sets the cost
 pub after_cost : (file_name : List ℕ) (file : List (List ℕ)) (name : List ℕ) (n : ℕ) → IsOneWord name → 1 ≤ n → n ≤ 65535 →
-    (router_of file_name ((file ++ name_line name ∷ []) ++ section_cost_line n ∷ []) ≡ with_costs ((name, n) ∷ []) (router_of file_name (file ++ name_line name ∷ [])))
+    (router_of file_name ((file ++ name_line name ∷ []) ++ section_cost_line n ∷ []) ≡
+        with_costs ((name, n) ∷ []) (router_of file_name (file ++ name_line name ∷ [])))
     × (first_heads ((file ++ name_line name ∷ []) ++ section_cost_line n ∷ []) ≡ first_heads (file ++ name_line name ∷ []))
 after_cost file_name file name n one from to =
     (router_of-cost file_name (file ++ name_line name ∷ []) (section_cost_line n) name n (block_behind file name one) cost refl heads, heads)

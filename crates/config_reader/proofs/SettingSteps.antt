@@ -104,7 +104,8 @@ interface_by router name line address area cost kind passive down priority = rec
 unfoldable pub interface_from : List Statement → List Statement → List ℕ → ℕ → Interface
 interface_from own router name line = by_said (interface_by router name line) own
 
-pub interface_of-from : (all : List Said) (name : List ℕ) (line : ℕ) → interface_as_set all name line ≡ interface_from (about all name) (about_router all) name line
+pub interface_of-from : (all : List Said) (name : List ℕ) (line : ℕ) →
+    interface_as_set all name line ≡ interface_from (about all name) (about_router all) name line
 unfolding interface_from interface_by
 interface_of-from all name line =
     ap (λ (area : Option ℕ). record (interface_as_set all name line) { area = area })

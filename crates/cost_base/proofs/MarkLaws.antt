@@ -89,7 +89,8 @@ marked_rest n numbers old new within are = record {
 }
 
 -- marks of a test where none was set before
-pub marks_from_none : (test : ℕ → Bool) (none marks : List Bool) (k : ℕ) → ((k : ℕ) → is_marked none k ≡ false) → AreMarked test none marks → is_marked marks k ≡ test k
+pub marks_from_none : (test : ℕ → Bool) (none marks : List Bool) (k : ℕ) → ((k : ℕ) → is_marked none k ≡ false) → AreMarked test none marks →
+    is_marked marks k ≡ test k
 marks_from_none test none marks k empty are = are.marked k ∙ ap (λ (b : Bool). b || test k) (empty k)
 
 -- marks of which none is set

@@ -189,7 +189,8 @@ one_added point requests old old_forms now forms new new_forms asked are met cou
     are.problem one.cheap)))
 
 -- where the paths of all requests lead, each path leads
-pub all_lead : (p : DesignProblem) (point : Point) (requests : ℕ) → length p.requests ≤ requests → ((k : ℕ) → k < requests → RequestLeads p.graph point (request_at p.requests k)) → LeadsEach p point
+pub all_lead : (p : DesignProblem) (point : Point) (requests : ℕ) → length p.requests ≤ requests →
+    ((k : ℕ) → k < requests → RequestLeads p.graph point (request_at p.requests k)) → LeadsEach p point
 all_lead p point requests all lead =
     All-from_get_or (λ r. LeadsBy point.scale p.graph point (request_ends r) r.path.edges) p.requests no_request (λ k k_in. lead k (omega arith))
 

@@ -35,7 +35,8 @@ IsRequestAsked point request old old_forms new new_forms false = NoRivalRow poin
 
 -- nothing was added where the paths of the first requests lead, and something where one doesn't
 abbrev pub AnswersRequestsBelow : DesignProblem → Point → ℕ → List Form → List Form → Asked → Type 0
-AnswersRequestsBelow p point requests old_forms new_forms Nothing = (new_forms ≡ old_forms) × ((k : ℕ) → k < requests → RequestLeads p.graph point (request_at p.requests k))
+AnswersRequestsBelow p point requests old_forms new_forms Nothing = (new_forms ≡ old_forms) ×
+    ((k : ℕ) → k < requests → RequestLeads p.graph point (request_at p.requests k))
 AnswersRequestsBelow p point requests old_forms new_forms Added = (LeadsEach p point → ⊥) × HasNewForm point old_forms new_forms
 
 -- The first requests were asked: rows and forms are in step, and true forms came. A row is of one of these requests, or
@@ -60,7 +61,8 @@ pub record AreAskedAmong (point : Point) (requests : ℕ) (old : KnownRows) (old
 
 -- All requests were asked, where the pool may hold other forms besides those of the rows: it got the forms of the rows
 -- that came, and no other. The rows' own forms tell whether each path leads.
-pub record AreAllRequestsAsked (point : Point) (old : KnownRows) (old_forms : List Form) (new : KnownRows) (new_forms : List Form) (asked : Asked) : Type 0 where
+pub record AreAllRequestsAsked (point : Point) (old : KnownRows) (old_forms : List Form) (new : KnownRows) (new_forms : List Form) (asked : Asked) : Type 0
+    where
   pub problem : new.problem ≡ old.problem
   pub are_rows : ArePoolRows old.problem new.rows
   pub more : List Form

@@ -60,6 +60,7 @@ chosen_here would Asked candidates (a ∷ others) b e picked h is said within as
     (λ _. (said ∙ same, record { first = e; those_left = refl; asked = subst T is asked }), λ out. absurd (omega arith))
 
 -- none is there
-pub chosen_none : {A : Type 0} (would : A → ℕ) (Asked : A → A → Type 0) (candidates : ℕ) (now : List A) → length now ≡ 0 → IsChosen would Asked candidates now 0 now
+pub chosen_none : {A : Type 0} (would : A → ℕ) (Asked : A → A → Type 0) (candidates : ℕ) (now : List A) → length now ≡ 0 →
+    IsChosen would Asked candidates now 0 now
 chosen_none would Asked candidates [] h = (refl, refl)
 chosen_none would Asked candidates (a ∷ others) h = absurd (omega arith)

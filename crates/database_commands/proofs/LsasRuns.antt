@@ -35,7 +35,8 @@ use Rattle.present_costs.specs.PresentCosts.{present_of_links}
 use Rattle.database_commands.specs.Lsas.{AreWritten, MayLsas, id_refused}
 
 -- each present cost is above 0
-pub costs_above : (names : InputFiles) (network : Network) (d : Input) → IsNetworkOf AtPresent names network d → All (λ cost. 0 < cost) (present_of_links d.asked d.database)
+pub costs_above : (names : InputFiles) (network : Network) (d : Input) → IsNetworkOf AtPresent names network d →
+    All (λ cost. 0 < cost) (present_of_links d.asked d.database)
 costs_above names network d is = above_at_present names d is.asked is.base is.resolved
 
 -- the graph that an audit goes by
@@ -91,7 +92,8 @@ wrote network configs costs (Err e) same are written graph = tt
 pub ids_refused : (names : InputFiles) (d : Input) (configs : List Router) (stop : Stop) →
     routers_of d.files ≡ configs → StopsAs (unless_refused (id_refused names) d (first_id_fault [] 0 configs)) [] stop →
     StopsAs (unless_refused (id_refused names) d (first_id_fault [] 0 (routers_of d.files))) [] stop
-ids_refused names d configs stop same is = subst (λ (rs : List Router). StopsAs (unless_refused (id_refused names) d (first_id_fault [] 0 rs)) [] stop) (sym same) is
+ids_refused names d configs stop same is = subst (λ (rs : List Router). StopsAs (unless_refused (id_refused names) d (first_id_fault [] 0 rs)) [] stop)
+    (sym same) is
 
 pub ids_ready : (names : InputFiles) (d : Input) (fault : Option IdFault) → fault ≡ None →
     IsReadAndMade (unless_refused (id_refused names) d fault) [] (λ (u : Unit {0}) said. said ≡ d) tt

@@ -31,7 +31,8 @@ opens_ends accepts top forms [] (e ∷ entries) opens = absurd opens
 opens_ends accepts top forms (p ∷ places) (e ∷ entries) opens =
     (opens.0, opens.1, opens_ends accepts top forms (subplaces p e ++ places) entries opens.2)
 
-earnest_undones : (accepts : Point → Type 0) (top : ℕ) (forms : List Form) (places : List OpenPlace) → Earnest accepts top forms places (undones (length places))
+earnest_undones : (accepts : Point → Type 0) (top : ℕ) (forms : List Form) (places : List OpenPlace) →
+    Earnest accepts top forms places (undones (length places))
 earnest_undones accepts top forms [] = tt
 earnest_undones accepts top forms (p ∷ places) = (tt, tt, earnest_undones accepts top forms places)
 

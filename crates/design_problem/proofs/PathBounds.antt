@@ -67,7 +67,8 @@ pub record RequestOf (g : Area) (requests : List Request) (k : ℕ) (d : Request
   pub is_there : slice_get requests k ≡ Some (get_or requests k d)
   pub path : IsPathOf g (request_ends (get_or requests k d)) es
 
-pub request_of_route : (g : Area) (requests : List Request) (k : ℕ) (d : Request) (es : List ℕ) → IsRouteOf g (slice_get requests k) es → RequestOf g requests k d es
+pub request_of_route : (g : Area) (requests : List Request) (k : ℕ) (d : Request) (es : List ℕ) → IsRouteOf g (slice_get requests k) es →
+    RequestOf g requests k d es
 request_of_route g [] k d es route = absurd route
 request_of_route g (r ∷ rs) zero d es route = record { within = omega arith; is_there = refl; path = route }
 request_of_route g (r ∷ rs) (suc k) d es route =

@@ -161,7 +161,8 @@ renumbered_step number old new box basis lows name left right keeps are step = g
         let P : List Fraction → Type 0 = λ ms. slice_get (denominators ms) k ≡ Some d →
         IsTableStep box new (map (renumbered_member number) basis) lows Lcm
         (whole (pos (lcm_of (take k (denominators ms))))) (whole (pos d)) in
-        subst P (same_multipliers number basis r es) (multiple (renumbered_member number r) es k d (known r is) (has r es is entries) (refuting es is_refuting)) gets
+        subst P (same_multipliers number basis r es) (multiple (renumbered_member number r) es k d (known r is) (has r es is entries) (refuting es is_refuting))
+            gets
     go name left right (multiplier_product r es k q is entries is_refuting gets) =
         let P : List Fraction → Type 0 = λ ms. slice_get ms k ≡ Some q →
         IsTableStep box new (map (renumbered_member number) basis) lows Mul q (whole (pos (lcm_of (denominators ms)))) in
@@ -176,7 +177,8 @@ renumbered_step number old new box basis lows name left right keeps are step = g
         (refuting es is_refuting)) gets
     go name left right (multiplier_scale r es is entries is_refuting) =
         let P : List Fraction → Type 0 = λ ms. IsTableStep box new (map (renumbered_member number) basis) lows Scale (sum_of (made_whole ms)) two_to_27 in
-        subst P (same_multipliers number basis r es) (multiplier_scale (renumbered_member number r) es (known r is) (has r es is entries) (refuting es is_refuting))
+        subst P (same_multipliers number basis r es) (multiplier_scale (renumbered_member number r) es (known r is) (has r es is entries)
+            (refuting es is_refuting))
 
 -- a step that is too wide stays one
 pub renumbered_too_wide : (number : ℕ → ℕ) (old new : List Form) (top : ℕ) (box : CostBox) (wide : WideAt) →
@@ -338,7 +340,8 @@ opens_kept accepts top forms more places entries left opens =
     (renumbered_opens (λ row. row) forms (forms ++ more) accepts top places entries left (forms_kept forms more) opens)
 
 -- and a step that is too wide
-pub too_wide_kept : (top : ℕ) (box : CostBox) (forms more : List Form) (wide : WideAt) → IsStepTooWide top box forms wide → IsStepTooWide top box (forms ++ more) wide
+pub too_wide_kept : (top : ℕ) (box : CostBox) (forms more : List Form) (wide : WideAt) → IsStepTooWide top box forms wide →
+    IsStepTooWide top box (forms ++ more) wide
 too_wide_kept top box forms more wide too_wide =
     subst (IsStepTooWide top box (forms ++ more)) (same_wide wide)
     (renumbered_too_wide (λ row. row) forms (forms ++ more) top box wide (forms_kept forms more) too_wide)

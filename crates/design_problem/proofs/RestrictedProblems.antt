@@ -45,7 +45,8 @@ restricted_kept p members kept rising known = record {
   named = kept.named;
   each_named = kept.each_named;
   words = kept.words;
-  request_count = let few = increasing-le (length p.requests) members rising known in omega (arith, kept.request_count, length-map members (request_at p.requests));
+  request_count = let few = increasing-le (length p.requests) members rising known in
+      omega (arith, kept.request_count, length-map members (request_at p.requests));
 }
 
 -- a problem is its parts

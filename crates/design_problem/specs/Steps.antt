@@ -90,7 +90,8 @@ pub data IsTableStep (box : CostBox) (rows : List Form) (basis : List Member) (l
       IsTableStep box rows basis lows Mul (whole (slice_index_or (form_at rows row).coefficients var (pos 0))) (entry (slice_index_or lows var []) place)
   row_sum : (row place k : ℕ) (next : Fraction) → row < length rows → place ≤ length basis →
       slice_get (terms (form_at rows row).coefficients lows place) k ≡ Some next →
-      IsTableStep box rows basis lows Add (fold plus (start_of_sum box (form_at rows row) place) (take k (terms (form_at rows row).coefficients lows place))) next
+      IsTableStep box rows basis lows Add (fold plus (start_of_sum box (form_at rows row) place) (take k (terms (form_at rows row).coefficients lows place)))
+          next
   pivot_quotient : (r : Member) (es : List Fraction) (j place : ℕ) → IsFormOf box rows r →
       HasEntries box rows basis r es → IsPivot basis es j → place ≤ length basis →
       IsTableStep box rows basis lows Div (entry es place) (entry es j)
@@ -114,10 +115,12 @@ pub data IsTableStep (box : CostBox) (rows : List Form) (basis : List Member) (l
   multiple : (r : Member) (es : List Fraction) (k d : ℕ) → IsFormOf box rows r → HasEntries box rows basis r es → IsRefutingForm basis es →
       slice_get (denominators (refuting_multipliers basis r es)) k ≡ Some d →
       IsTableStep box rows basis lows Lcm (whole (pos (lcm_of (take k (denominators (refuting_multipliers basis r es)))))) (whole (pos d))
-  multiplier_product : (r : Member) (es : List Fraction) (k : ℕ) (q : Fraction) → IsFormOf box rows r → HasEntries box rows basis r es → IsRefutingForm basis es →
+  multiplier_product : (r : Member) (es : List Fraction) (k : ℕ) (q : Fraction) → IsFormOf box rows r → HasEntries box rows basis r es →
+      IsRefutingForm basis es →
       slice_get (refuting_multipliers basis r es) k ≡ Some q →
       IsTableStep box rows basis lows Mul q (whole (pos (lcm_of (denominators (refuting_multipliers basis r es)))))
-  multiplier_sum : (r : Member) (es : List Fraction) (k : ℕ) (next : Fraction) → IsFormOf box rows r → HasEntries box rows basis r es → IsRefutingForm basis es →
+  multiplier_sum : (r : Member) (es : List Fraction) (k : ℕ) (next : Fraction) → IsFormOf box rows r → HasEntries box rows basis r es →
+      IsRefutingForm basis es →
       slice_get (made_whole (refuting_multipliers basis r es)) k ≡ Some next →
       IsTableStep box rows basis lows Add (sum_of (take k (made_whole (refuting_multipliers basis r es)))) next
   multiplier_scale : (r : Member) (es : List Fraction) → IsFormOf box rows r → HasEntries box rows basis r es → IsRefutingForm basis es →

@@ -86,7 +86,8 @@ trial_made Given Asked job blocks start made is given tried asked =
     by_made (Err stop) done asks = inl (ap (λ (s : Stop). Err s) done)
 
 -- a job's report may be written, and the advisors were asked so for it; what came begins what the words ask for
-pub record IsDoneAsking (Asked : Option JobRead → List Taken → List ℕ → Type 0) (job : JobRead) (came : List Taken) (result : Result Report OutOfMemory) : Type 0 where
+pub record IsDoneAsking (Asked : Option JobRead → List Taken → List ℕ → Type 0) (job : JobRead) (came : List Taken) (result : Result Report OutOfMemory) : Type
+    0 where
   pub done : IfOk result (λ report. MayWriteAsking (MayWrite (Some job) came) (Asked (Some job) came) report.status (bytes_in report.text))
   pub begun : MayWant (Some job) came
 

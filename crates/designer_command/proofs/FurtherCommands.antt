@@ -129,7 +129,8 @@ undecided_spread : (limits : SearchLimits) (sharing : Sharing) (bytes : List ℕ
     ShowsSpread limits sharing status.Undecided bytes → ⊥
 undecided_spread limits sharing bytes cannot shown = by_found shown.spread shown.found shown.status
   where
-    by_found : (spread : Spread) → IsSpreadFound sharing.input.problem shown.sets limits.top limits.nodes spread → spreads.spread_status spread ≡ status.Undecided → ⊥
+    by_found : (spread : Spread) → IsSpreadFound sharing.input.problem shown.sets limits.top limits.nodes spread →
+        spreads.spread_status spread ≡ status.Undecided → ⊥
     by_found (Fit w) found is = done_undecided is
     by_found (NoSpread rows tree) found is = impossible_undecided is
     by_found (SpreadUndecided rows tree) found is =

@@ -203,7 +203,8 @@ MayWriteAsking may asked status bytes = may status bytes × asked bytes
 -- A run of these words: this came of the files that the shelf was asked for, true to what it holds and to its counts of
 -- faults, and what was written is right for that. `Asked` tells by which searches of what came a job asks the advisors
 -- before it writes these bytes.
-pub record RunMeets (words : List (List ℕ)) (Asked : Option JobRead → List Taken → List ℕ → Type 0) (gave : List Taken → Type 0) (held : List ℕ → Option (List ℕ))
+pub record RunMeets (words : List (List ℕ)) (Asked : Option JobRead → List Taken → List ℕ → Type 0) (gave : List Taken → Type 0)
+    (held : List ℕ → Option (List ℕ))
     (before now : List ℕ → ℕ) (handed : List ℕ → Type 0) (got_before got_now : Option (List ℕ))
     (count_before count_now : ℕ) (status : Status) : Type 0 where
   pub came : List Taken

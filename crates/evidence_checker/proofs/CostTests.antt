@@ -42,7 +42,8 @@ moved p k costs floor lines w s lines_are given stops =
 no_places : (p : DesignProblem) (lines : List CostLine) → NamesPlaces p.vars lines → (f : FailedTest) → AtNoPlace 50 (NamesPlaces p.vars lines → ⊥) f → ⊥
 no_places p lines named f failed = failed.2 named
 
-no_ends : (p : DesignProblem) (lines : List CostLine) (w : List ℕ) → CostLinesOf w p.vars lines → (f : FailedTest) → AtFirst 53 (HasUnequalEnds p.vars lines) f → ⊥
+no_ends : (p : DesignProblem) (lines : List CostLine) (w : List ℕ) → CostLinesOf w p.vars lines → (f : FailedTest) →
+    AtFirst 53 (HasUnequalEnds p.vars lines) f → ⊥
 no_ends p lines w names_lines f failed = names_equal p lines w f.place names_lines failed.1
 
 inside : (p : DesignProblem) (w : List ℕ) (k : ℕ) → IsInBox (box_of p) w → IsOutside p.low p.high w k → ⊥

@@ -42,8 +42,10 @@ floor-one : (line : List ℕ) (floor : Floor) → line ≡ floor_line floor → 
 floor-one line floor is = one-of line (codes "floor" ∷ floor_word floor ∷ []) is (written (codes "floor") refl, (floor-whole floor, tt))
 
 -- a front without an LF, and a number behind it
-front-one : (front : List ℕ) (greatest : ℕ) (line : List ℕ) → list_all (λ c. not (eqb c 10)) front ≡ true → IsFrontAndNumber front greatest line → IsOneLine line
-front-one front greatest line plain said = one-along line (front ++ decimal said.0) said.2 (All-append (λ c. eqb c 10 ≡ false) front (decimal said.0) (written front plain) (number-whole said.0))
+front-one : (front : List ℕ) (greatest : ℕ) (line : List ℕ) → list_all (λ c. not (eqb c 10)) front ≡ true → IsFrontAndNumber front greatest line →
+    IsOneLine line
+front-one front greatest line plain said = one-along line (front ++ decimal said.0) said.2
+    (All-append (λ c. eqb c 10 ≡ false) front (decimal said.0) (written front plain) (number-whole said.0))
 
 end-one : (of : Option OtherText) (line : List ℕ) (next : TextPlace) → IsEndNext of line next → IsOneLine line
 end-one None line next a = floor-one line a.floor a.is

@@ -61,7 +61,8 @@ interface-is : (of : Option OtherText) (router : List ℕ) (line : CostLine) →
 interface-is of router line fits = record { name = line.interface; word = fits.interface; is = refl; leads = refl }
 
 -- a cost behind the line of its router
-section-on : (of : Option OtherText) (before : Option (List ℕ)) (line : CostLine) (rest : List (List ℕ)) (to : TextPlace) → before ≢ Some line.router → FitsCostLine line →
+section-on : (of : Option OtherText) (before : Option (List ℕ)) (line : CostLine) (rest : List (List ℕ)) (to : TextPlace) → before ≢ Some line.router →
+    FitsCostLine line →
     GoOn (AtCost of line.router) rest to → GoOn (AtSections of before) (router_line line.router ∷ interface_line line.interface ∷ rest) to
 section-on of before line rest to other fits behind = (
   AtInterface of line.router,
@@ -70,7 +71,8 @@ section-on of before line rest to other fits behind = (
 )
 
 -- a cost without or with the line of its router, as its router is that of the cost before or another one
-again-on : (of : Option OtherText) (before : List ℕ) (line : CostLine) (rest : List (List ℕ)) (to : TextPlace) (same : Bool) → same_bytes before line.router ≡ same → FitsCostLine line →
+again-on : (of : Option OtherText) (before : List ℕ) (line : CostLine) (rest : List (List ℕ)) (to : TextPlace) (same : Bool) →
+    same_bytes before line.router ≡ same → FitsCostLine line →
     GoOn (AtCost of line.router) rest to →
     GoOn (AtSections of (Some before))
     (cond same [] (router_line line.router ∷ []) ++ (interface_line line.interface ∷ rest)) to

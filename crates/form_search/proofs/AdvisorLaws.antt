@@ -33,7 +33,8 @@ pub left_searched : {A : Type 0} (Search : List A → List A → Type 0) (xs ys 
 left_searched Search xs ys searched = more xs xs ys (none xs) searched
 
 -- searches, and then searches
-pub left_then : {A : Type 0} (Search : List A → List A → Type 0) (xs ys zs : List A) → AreAdvisorsLeft Search xs ys → AreAdvisorsLeft Search ys zs → AreAdvisorsLeft Search xs zs
+pub left_then : {A : Type 0} (Search : List A → List A → Type 0) (xs ys zs : List A) → AreAdvisorsLeft Search xs ys → AreAdvisorsLeft Search ys zs →
+    AreAdvisorsLeft Search xs zs
 left_then Search xs ys zs first (none u) = first
 left_then Search xs ys zs first (more u v w rest last) = more xs v w (left_then Search xs u v first rest) last
 
@@ -294,7 +295,8 @@ wanting_end IsHere Picks Tells box tree next old now asked new along ready (inr 
 found_full : (IsHere : CostBox → Point → Type 0) (nodes : ℕ) (tree : Growing) (entry : Entry) (found : Found) (full : Bool) →
     ended found ≡ (if full then Break (Undecided (tree.entries ++ undones (length tree.places))) else Continue (grown tree entry)) →
     IsTreeOf IsHere tree found
-found_full IsHere nodes tree entry found true ends = subst (IsTreeOf IsHere tree) (sym (same_found found (Undecided (tree.entries ++ undones (length tree.places))) ends)) refl
+found_full IsHere nodes tree entry found true ends = subst (IsTreeOf IsHere tree) (sym (same_found found
+    (Undecided (tree.entries ++ undones (length tree.places))) ends)) refl
 found_full IsHere nodes tree entry found false ends = absurd (cc)
 
 -- where costs come next, they are those of the point that is asked for in the box

@@ -13,7 +13,8 @@ use Rattle.form_search.specs.Sources.{SameFor}
 use Rattle.form_search.specs.Points.{AreCostsThere}
 use Rattle.form_search.specs.NextEntries.{IsNextStep}
 
-pub least_same : (accepted other : Point → Type 0) (box : CostBox) (point : Point) → SameFor accepted other → IsLeastPoint accepted box point → IsLeastPoint other box point
+pub least_same : (accepted other : Point → Type 0) (box : CostBox) (point : Point) → SameFor accepted other → IsLeastPoint accepted box point →
+    IsLeastPoint other box point
 least_same accepted other box point same least = record {
   inside = least.inside;
   accepted = (same point).0 least.accepted;

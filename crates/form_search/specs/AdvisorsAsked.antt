@@ -37,7 +37,8 @@ pub record AreAskedFor {A : Type 0} (IsHere : CostBox → Point → Type 0) (Pic
   pub same_value : value ≡ candidate.floor
 
 -- before a Split the advisors are asked for it, and before another entry they are asked for nothing
-abbrev pub AreReadyFor : {A : Type 0} → (CostBox → Point → Type 0) → (List Candidate → ℕ → List A → List A → Type 0) → CostBox → Entry → List A → List A → Type 0
+abbrev pub AreReadyFor : {A : Type 0} → (CostBox → Point → Type 0) → (List Candidate → ℕ → List A → List A → Type 0) → CostBox → Entry → List A → List A →
+    Type 0
 AreReadyFor IsHere Picks box (Tighten var side value row) old new = new ≡ old
 AreReadyFor IsHere Picks box (Split var value) old new = AreAskedFor IsHere Picks box var value old new
 AreReadyFor IsHere Picks box (Halve var value wide) old new = new ≡ old

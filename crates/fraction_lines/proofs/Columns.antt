@@ -139,7 +139,8 @@ put_rises mid c q old new rises after put =
       | inr some ↦ subst (λ (es : List (ℕ × Fraction)). Rises 0 (suc c) es) (sym some.1) (rises_push 0 mid c q old rises after (omega arith) some.0)
     ]
 
-pub put_here : (mid c : ℕ) (q : Fraction) (old new : List (ℕ × Fraction)) → IsLowest q → Rises 0 mid old → mid ≤ c → IsPutAtEnd old c q new → fraction_at new c ≡ q
+pub put_here : (mid c : ℕ) (q : Fraction) (old new : List (ℕ × Fraction)) → IsLowest q → Rises 0 mid old → mid ≤ c → IsPutAtEnd old c q new →
+    fraction_at new c ≡ q
 put_here mid c q old new q_lowest rises after put =
     elim put [
       | inl none ↦ ap (λ (es : List (ℕ × Fraction)). fraction_at es c) none.1 ∙ at_above 0 mid old c rises after ∙ sym (lowest_zero q q_lowest none.0)
@@ -153,7 +154,8 @@ put_other c k q old new other put =
       | inr some ↦ ap (λ (es : List (ℕ × Fraction)). fraction_at es k) some.1 ∙ push_other c k q old other
     ]
 
-pub put_numbers : (top c : ℕ) (q : Fraction) (old new : List (ℕ × Fraction)) → AllNumbers top old → IsTableNumber top q → IsPutAtEnd old c q new → AllNumbers top new
+pub put_numbers : (top c : ℕ) (q : Fraction) (old new : List (ℕ × Fraction)) → AllNumbers top old → IsTableNumber top q → IsPutAtEnd old c q new →
+    AllNumbers top new
 put_numbers top c q old new numbers q_is put =
     elim put [
       | inl none ↦ subst (AllNumbers top) (sym none.1) numbers

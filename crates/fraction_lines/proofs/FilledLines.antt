@@ -93,14 +93,16 @@ mapped_number top f a (suc n) (suc k) numbers k_in =
 
 all_at : (top : ℕ) (es : List (ℕ × Fraction)) (k : ℕ) → IsTableNumber top nothing → AllNumbers top es → IsTableNumber top (fraction_at es k)
 all_at top [] k zero_is numbers = zero_is
-all_at top (e ∷ es) k zero_is numbers = test_cases (IsTableNumber top) e.0 k e.1 (fraction_at es k) (λ same. numbers.0) (λ other. all_at top es k zero_is numbers.1)
+all_at top (e ∷ es) k zero_is numbers = test_cases (IsTableNumber top) e.0 k e.1 (fraction_at es k) (λ same. numbers.0)
+    (λ other. all_at top es k zero_is numbers.1)
 
 each_at : (top low high : ℕ) (es : List (ℕ × Fraction)) → Rises low high es →
     ((k : ℕ) → low ≤ k → k < high → IsTableNumber top (fraction_at es k)) → AllNumbers top es
 each_at top low high [] rises each = tt
 each_at top low high (e ∷ es) rises each = (
   subst (IsTableNumber top) (fraction_here e es e.0 refl) (each e.0 rises.0 rises.1),
-  each_at top (suc e.0) high es rises.3 (λ k from k_in. subst (IsTableNumber top) (fraction_there e es k (apart k from)) (each k (omega (arith, rises.0)) k_in)),
+  each_at top (suc e.0) high es rises.3 (λ k from k_in. subst (IsTableNumber top) (fraction_there e es k (apart k from))
+      (each k (omega (arith, rises.0)) k_in)),
 )
   where
     apart : (k : ℕ) → suc e.0 ≤ k → e.0 ≢ k

@@ -23,7 +23,8 @@ unmarked_nothing marks (e ∷ es) k marked none =
     ∙ unmarked_nothing marks es k (All-tail (HasMark marks) e es marked) none
 
 -- marks that are kept
-pub more_marks : (marks more : Marks) (es : List (ℕ × Fraction)) → ((k : ℕ) → IsColumnMarked marks k → IsColumnMarked more k) → AllMarked marks es → AllMarked more es
+pub more_marks : (marks more : Marks) (es : List (ℕ × Fraction)) → ((k : ℕ) → IsColumnMarked marks k → IsColumnMarked more k) → AllMarked marks es →
+    AllMarked more es
 more_marks marks more es kept marked = All-weaker (HasMark marks) (HasMark more) (λ e here. kept e.0 here) es marked
 
 -- a column that is put

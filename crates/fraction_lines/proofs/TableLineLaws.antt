@@ -21,7 +21,8 @@ use Rattle.fraction_lines.proofs.SmallNumbers.{whole_number}
 pub number_at : (top : ℕ) (qs : List Fraction) (k : ℕ) → AreTableNumbers top qs → k < length qs → IsTableNumber top (entry qs k)
 number_at top qs k numbers k_in = all_from_each (IsTableNumber top) qs numbers k nothing k_in
 
-pub written_numbers : (top : ℕ) (qs : List Fraction) (k : ℕ) (q : Fraction) → AreTableNumbers top qs → IsTableNumber top q → AreTableNumbers top (slice_set qs k q)
+pub written_numbers : (top : ℕ) (qs : List Fraction) (k : ℕ) (q : Fraction) → AreTableNumbers top qs → IsTableNumber top q →
+    AreTableNumbers top (slice_set qs k q)
 written_numbers top [] k q numbers q_is = tt
 written_numbers top (p ∷ qs) zero q numbers q_is = (q_is, numbers.1)
 written_numbers top (p ∷ qs) (suc k) q numbers q_is = (numbers.0, written_numbers top qs k q numbers.1 q_is)

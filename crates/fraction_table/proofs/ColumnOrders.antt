@@ -48,7 +48,8 @@ column_at a b k j [] u u_in = absurd (omega arith)
 column_at a b k j (ts ∷ lows) zero u_in = refl
 column_at a b k j (ts ∷ lows) (suc u) u_in = column_at a b k j lows u (omega arith)
 
-pub column_long : (a : ℕ) (b : ℤ) (k j : ℕ) (lows : List (List ℤ)) → length (turned_column a (numbers_in_column k lows) b (numbers_in_column j lows)) ≡ length lows
+pub column_long : (a : ℕ) (b : ℤ) (k j : ℕ) (lows : List (List ℤ)) →
+    length (turned_column a (numbers_in_column k lows) b (numbers_in_column j lows)) ≡ length lows
 column_long a b k j [] = refl
 column_long a b k j (ts ∷ lows) = ap suc (column_long a b k j lows)
 

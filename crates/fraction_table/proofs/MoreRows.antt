@@ -119,6 +119,7 @@ whole_more top costs rows basis table f line w fits numbers stand =
             subst (λ (members : List Member). AllZip (IsTableLine top w.unboxed.common costs more w.unboxed.lows) members
             (table ++ line ∷ [])) (sym (members_more costs (length rows)) ∙ ap (members_of_box costs) counted)
             (zip_push (IsTableLine top w.unboxed.common costs more w.unboxed.lows) (members_of_box costs (length rows)) table (Row (length rows)) line
-            (lines_kept top w.unboxed.common costs rows f w.unboxed.lows (members_of_box costs (length rows)) table (members_are costs rows) w.unboxed.lines) last);
+            (lines_kept top w.unboxed.common costs rows f w.unboxed.lows (members_of_box costs (length rows)) table (members_are costs rows) w.unboxed.lines)
+                last);
       };
     }

@@ -223,7 +223,8 @@ pub column_own : (top : ℕ) (costs : CostBox) (rows : List Form) (basis : List 
     × (number_of_form u.common costs.low u.lows (member_form (length costs.low) rows before) (suc j) ≡ pos u.common)
 column_own top costs rows basis table u before j j_in here =
     let form_is = sym (column_form costs rows basis j before j_in here) in (
-      ap (λ (f : Form). number_of_form u.common costs.low u.lows f 0) form_is ∙ u.elsewhere j 0 (omega (arith, j_in, u.count)) (omega arith) (λ h. omega (arith, h)),
+      ap (λ (f : Form). number_of_form u.common costs.low u.lows f 0) form_is ∙
+          u.elsewhere j 0 (omega (arith, j_in, u.count)) (omega arith) (λ h. omega (arith, h)),
       ap (λ (f : Form). number_of_form u.common costs.low u.lows f (suc j)) form_is ∙ u.own j (omega (arith, j_in, u.count)),
     )
 
@@ -303,7 +304,8 @@ lines_moved top costs next rows basis table u news before after fall column own 
     as_long : length (members_of_box costs (length rows)) ≡ length table
     as_long = length_zip (IsTableLine top u.common costs rows u.lows) (members_of_box costs (length rows)) table u.lines
 
-    other_member : (i : ℕ) → i < length (members_of_box costs (length rows)) → i ≢ own → slice_index_or (members_of_box costs (length rows)) i (Low 0 0) ≢ before
+    other_member : (i : ℕ) → i < length (members_of_box costs (length rows)) → i ≢ own →
+        slice_index_or (members_of_box costs (length rows)) i (Low 0 0) ≢ before
     other_member i i_in apart same =
         apart (sym (place_there costs (length rows) i i_in) ∙ ap (place_of (length costs.low)) (same ∙ sym m.own_is)
         ∙ place_there costs (length rows) own m.own_in)
@@ -343,7 +345,8 @@ lines_moved top costs next rows basis table u news before after fall column own 
         (omega (arith, length_shifted column own (whole fall) table, as_long, i_in)) in
         record {
           numbers = here.1;
-          stand = subst (λ (w : ℕ). Stand u.common now (numbers_of_form w u.common next.low news (member_form w rows member))) (sym m.falls.width) (stand i i_in);
+          stand = subst (λ (w : ℕ). Stand u.common now (numbers_of_form w u.common next.low news (member_form w rows member))) (sym m.falls.width)
+              (stand i i_in);
         }
 
 moved_is : (costs next : CostBox) (rows : List Form) (m : Member) → length next.low ≡ length costs.low →

@@ -75,7 +75,8 @@ parts_different r q members qs own apart =
     (λ row is. columns_other row members qs (λ k k_in same. own k k_in (same ∙ sym is)))
     (columns_different members qs apart)
 
-whole_other : (L row : ℕ) (parts : List (ℕ × Fraction)) → AllByRecursion (λ p. p.0 ≢ row) parts → AllByRecursion (λ p. p.0 ≢ row) (map (whole_multiplier L) parts)
+whole_other : (L row : ℕ) (parts : List (ℕ × Fraction)) → AllByRecursion (λ p. p.0 ≢ row) parts →
+    AllByRecursion (λ p. p.0 ≢ row) (map (whole_multiplier L) parts)
 whole_other L row [] other = tt
 whole_other L row (part ∷ parts) other = (other.0, whole_other L row parts other.1)
 
@@ -172,7 +173,8 @@ value_split forms w (part ∷ parts) =
     regroup a b c d = omega (arith, ints)
 
 -- The weighted sum of forms doesn't depend on the order of the parts.
-pub value_moved : (forms : List Form) (w : List ℕ) (xs ys : List (ℕ × ℕ)) → IsPermutation xs ys → value_for_costs (weighted forms ys) w ≡ value_for_costs (weighted forms xs) w
+pub value_moved : (forms : List Form) (w : List ℕ) (xs ys : List (ℕ × ℕ)) → IsPermutation xs ys →
+    value_for_costs (weighted forms ys) w ≡ value_for_costs (weighted forms xs) w
 value_moved forms w xs ys moved =
     value_split forms w ys
     ∙ ap (λ (n : ℕ). pos n -ℤ pos (sum_by (lowering forms w) ys)) (sum_by-IsPermutation (raising forms w) xs ys moved)

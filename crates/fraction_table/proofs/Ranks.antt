@@ -249,7 +249,8 @@ rank_rises t w line column news line_in pivot least news_are rows =
     (subst (λ (m : ℕ). AllLong m w.unboxed.lows) (sym rs_long) w.unboxed.long) positive.1
     (λ same. omega (arith, same)) (omega (arith, rs_long)) in
     let below = negative_size (number_at rs 0) (constant_negative t w line line_in pivot.below) in
-    let in_columns : length (numbers_in_column 0 w.unboxed.lows) ≡ length (numbers_in_column (suc column) w.unboxed.lows) = length-numbers_in 0 w.unboxed.lows (suc column) in
+    let in_columns : length (numbers_in_column 0 w.unboxed.lows) ≡
+        length (numbers_in_column (suc column) w.unboxed.lows) = length-numbers_in 0 w.unboxed.lows (suc column) in
     let rises = constants_rise w.unboxed.common a (numbers_in_column 0 w.unboxed.lows) below.0 (number_at rs 0)
     (numbers_in_column (suc column) w.unboxed.lows) w.unboxed.positive below.1 below.2 in_columns
     (w.unboxed.lead column p.j_in) in
@@ -322,7 +323,8 @@ rank_rises_to s t w v keeps leads =
     ∙ ap (λ z. z *ℤ pos D) (first_number v.unboxed.lows 0 i (omega (arith, counted_after, wide, i_in))) in
     record {
       old = constant_number s w i (omega (arith, many, i_in));
-      new = subst (λ (top : ℕ). IsTableNumber top (entry (slice_index_or t.lines.items i []) 0)) keeps.top (constant_number t v i (omega (arith, many_after, i_in)));
+      new = subst (λ (top : ℕ). IsTableNumber top (entry (slice_index_or t.lines.items i []) 0)) keeps.top
+          (constant_number t v i (omega (arith, many_after, i_in)));
       old_stands = subst (λ (z : ℤ). StandsFor (entry (line_at s i) 0) z D) (sym (first_number w.unboxed.lows 0 i (omega (arith, counted, i_in)))) before.1;
       new_stands = subst (λ (z : ℤ). StandsFor (entry (line_at t i) 0) z (D * a)) (sym y_is)
           (scaled_stands (entry (line_at t i) 0) (number_at (slice_index_or v.unboxed.lows i []) 0) D a after.1);

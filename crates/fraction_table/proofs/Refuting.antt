@@ -172,7 +172,8 @@ line_apart t line s k k_in same =
     not_both z low none = omega (arith, ints)
 
 pub parts_apart : (t : Table) (line : ℕ) → IsRefutingLine t line → Different (parts_at t line)
-parts_apart t line s = parts_different (member_at t line) (whole (pos 1)) t.basis.items (drop 1 (line_at t line)) (line_apart t line s) (basis_apart t s.tableau)
+parts_apart t line s = parts_different (member_at t line) (whole (pos 1)) t.basis.items (drop 1 (line_at t line)) (line_apart t line s)
+    (basis_apart t s.tableau)
 
 -- at most one for each column, and one
 numbered_long : (member : Member) (qs : List Fraction) → length (numbered member qs) ≤ length qs
@@ -252,7 +253,8 @@ sum_negative t line s w inside =
     (columns_numbered t.basis.items (drop 1 es)) (common_divides (parts_at t line)) in
     let made = are_made t.top D L t.basis.items (drop 1 es) ms (whole_is.unboxed.count ∙ sym (rest_long es n long))
     whole_is.unboxed.positive L_positive (rest_numbers t.top es l.numbers)
-    (rest_low n es long (λ k k_from k_in. s.refuting.none_above k k_from (omega (arith, whole_is.unboxed.count, k_in)))) (rest_stand D es m ms l.stand) divides in
+    (rest_low n es long (λ k k_from k_in. s.refuting.none_above k k_from (omega (arith, whole_is.unboxed.count, k_in)))) (rest_stand D es m ms l.stand) divides
+        in
     parts_negative D L n t.rows.items w r t.basis.items (drop 1 es) m ms L_positive (constant_low t line s)
     (bound_high t.costs t.rows.items w r inside (member_is t whole_is line s.line_in))
     (all_high t.costs t.rows.items w t.basis.items inside whole_is.unboxed.members)
@@ -263,7 +265,8 @@ pub whole_are : (t : Table) (line : ℕ) → IsRefutingLine t line →
 whole_are t line s = each_whole t.top (length t.rows.items) (parts_at t line) (parts_are t line s)
 
 -- so there is a part
-none_negative : (rows : List Form) (w : List ℕ) (parts : List (ℕ × Fraction)) → parts ≡ [] → value_for_costs (weighted rows (whole_multipliers parts)) w <ℤ pos 0 → ⊥
+none_negative : (rows : List Form) (w : List ℕ) (parts : List (ℕ × Fraction)) → parts ≡ [] →
+    value_for_costs (weighted rows (whole_multipliers parts)) w <ℤ pos 0 → ⊥
 none_negative rows w [] none negative = omega (arith, ints)
 none_negative rows w (part ∷ parts) none negative = absurd (omega (arith, ap length none))
 

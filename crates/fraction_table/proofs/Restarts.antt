@@ -248,7 +248,8 @@ pub starting_many : (costs : CostBox) → length (starting costs) ≡ length cos
 starting_many costs = length-map-numbers_from (low_member costs) 0 (length costs.low)
 
 -- boxes of as many variables have as many members
-pub members_same : (costs next : CostBox) (rows : ℕ) → length costs.low ≡ length next.low → length (members_of_box costs rows) ≡ length (members_of_box next rows)
+pub members_same : (costs next : CostBox) (rows : ℕ) → length costs.low ≡ length next.low →
+    length (members_of_box costs rows) ≡ length (members_of_box next rows)
 members_same costs next rows width = omega (arith, members_long costs rows, members_long next rows, width)
 
 -- what is held of a table that has moved, or that was started anew

@@ -45,7 +45,8 @@ pub length-raised : (column : Option ℕ) (fall : ℤ) (lows : List (List ℤ)) 
 length-raised None fall lows = refl
 length-raised (Some j) fall lows = length-map lows _
 
-shifted_rows : (t s : Table) → KeepsBoxAndRows t s → HasShape s → (ls : List (List Fraction)) → s.lines.items ≡ ls → AreTableLines t.top (suc (length t.costs.low)) ls
+shifted_rows : (t s : Table) → KeepsBoxAndRows t s → HasShape s → (ls : List (List Fraction)) → s.lines.items ≡ ls →
+    AreTableLines t.top (suc (length t.costs.low)) ls
 shifted_rows t s k shape ls ls_are =
     subst (AreTableLines t.top (suc (length t.costs.low))) ls_are
     (subst (λ (top : ℕ). AreTableLines top (suc (length t.costs.low)) s.lines.items) k.top

@@ -74,7 +74,8 @@ number_start n low f zero counted place_in =
 number_start n low f (suc k) counted place_in =
     starts_there n 0 n k k f.coefficients (sym (zero-add k)) (omega (arith, counted)) counted (omega arith)
 
-numbers_start : (n : ℕ) (low : List ℕ) (f : Form) → length f.coefficients ≡ n → numbers_of_form n 1 low (start_rows n 0 n) f ≡ value_for_costs f low ∷ f.coefficients
+numbers_start : (n : ℕ) (low : List ℕ) (f : Form) → length f.coefficients ≡ n →
+    numbers_of_form n 1 low (start_rows n 0 n) f ≡ value_for_costs f low ∷ f.coefficients
 numbers_start n low f counted =
     let ts = value_for_costs f low ∷ f.coefficients in
     map-numbers_from-agree (number_of_form 1 low (start_rows n 0 n) f) (number_at ts) 0 (suc n)

@@ -87,7 +87,8 @@ ends_then {A} {B} (Take name most next) f (taken ∷ xs) ys x end first second =
 )
 
 -- a fault of the one reading is one of both
-pub ends_faulty : {A B : Type 0} (m : Reading A) (f : A → Reading B) (xs : List Taken) (r : InputRefusal) → EndsAs m xs (Faulty r) → EndsAs (m >>= f) xs (Faulty r)
+pub ends_faulty : {A B : Type 0} (m : Reading A) (f : A → Reading B) (xs : List Taken) (r : InputRefusal) → EndsAs m xs (Faulty r) →
+    EndsAs (m >>= f) xs (Faulty r)
 ends_faulty (Ready y) f [] r first = absurd (said_faulty y r (sym first))
 ends_faulty (Ready y) f (taken ∷ xs) r first = absurd first
 ends_faulty {A} {B} (Refused s) f [] r first = faulty_of {A = A} {B = B} r s first

@@ -124,7 +124,8 @@ module _ (turn : Turn) (column : ℕ) (entering line : Line) where
       let g = gcd_is above below in
       subst (IsPartTo turn column entering line 0) (sym is) record {
         positive = gcd_high above below
-            (product_positive (nat_abs line.denominator) (nat_abs turn.multiplier) (size_positive line.denominator d_high) (size_positive turn.multiplier m_high));
+            (product_positive (nat_abs line.denominator) (nat_abs turn.multiplier) (size_positive line.denominator d_high)
+                (size_positive turn.multiplier m_high));
         denominator = g.1;
         constant = g.0;
         numbers = λ c c_in. absurd (omega (arith, c_in));

@@ -96,7 +96,8 @@ module _ (turn : Turn) (column : ℕ) (entering old : Line) (t : IsTurning turn 
       let own = t.small.own in
       omega (arith, more, own)
 
-  pub turning_small : (c : ℕ) → nat_abs turn.multiplier * nat_abs (number_at old.numbers c) + nat_abs turn.factor * nat_abs (number_at entering.numbers c) ≤ 2 ^ 30
+  pub turning_small : (c : ℕ) → nat_abs turn.multiplier * nat_abs (number_at old.numbers c) + nat_abs turn.factor * nat_abs (number_at entering.numbers c) ≤ 2 ^
+      30
   turning_small c =
       sizes_kept (nat_abs turn.multiplier) (nat_abs turn.factor) (nat_abs (number_at old.numbers c)) (greatest_of old.numbers)
       (nat_abs (number_at entering.numbers c)) (greatest_of entering.numbers)

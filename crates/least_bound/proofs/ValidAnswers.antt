@@ -224,7 +224,8 @@ impossible_kept p top nodes pool sheet t (Some u) None is proof_is undecided_is 
 gives : (p : DesignProblem) (w : List ℕ) (costs : CostsPart) → IsFit p w → ArePrintedCosts p w costs → GivesCosts p costs.greatest costs
 gives p w costs fit printed = record { values = w; names = printed.names; fit = fit; greatest = sym printed.greatest; printed = refl }
 
-floor_shows : (p : DesignProblem) (rows : List Row) (k : ℕ) (floor : Floor) → k ≡ greatest_cost p.low → ShowsFloor p.low floor → ShowsLeastGreatest p rows k floor None
+floor_shows : (p : DesignProblem) (rows : List Row) (k : ℕ) (floor : Floor) → k ≡ greatest_cost p.low → ShowsFloor p.low floor →
+    ShowsLeastGreatest p rows k floor None
 floor_shows p rows k Absent is shows = absurd shows
 floor_shows p rows k Empty is shows = shows
 floor_shows p rows k (Var v) is shows = (shows.0, shows.1 ∙ sym is)
@@ -263,7 +264,8 @@ optimal_answered p top nodes pool sheet w costs floor (Some t) (Some u) None is 
       holds = record {
         rows = sheet_rows p pool sheet is;
         finished = refl;
-        claim = (gives p w costs fit printed, subst (λ (f : Floor). ShowsLeastGreatest p sheet.rows costs.greatest f (Some u)) (sym shows) (u.cap, next, proves));
+        claim = (gives p w costs fit printed, subst (λ (f : Floor). ShowsLeastGreatest p sheet.rows costs.greatest f (Some u)) (sym shows)
+            (u.cap, next, proves));
       };
       proof = tree_printed p top nodes pool sheet t u is proof_is holds.2.tree holds.2.few;
       sheet = whole;

@@ -53,7 +53,8 @@ pub record IsTreeOfRequests (p : DesignProblem) (top nodes : ℕ) (members : Lis
   pub short : All (IsShort (length p.low)) tree
 
 -- a least conflict, with the closed tree that refutes it and, for each of its members, costs that are fit without it
-pub record IsLeastConflictShown (p : DesignProblem) (top nodes : ℕ) (members : List ℕ) (rows : List Row) (tree : List Entry) (without : List (List ℕ)) : Type 0 where
+pub record IsLeastConflictShown (p : DesignProblem) (top nodes : ℕ) (members : List ℕ) (rows : List Row) (tree : List Entry) (without : List (List ℕ)) : Type 0
+    where
   pub least : IsLeastConflict p members
   pub told : IsTreeOfRequests p top nodes members rows tree
   pub closed : IsClosed tree

@@ -92,7 +92,8 @@ total_forms_hold p most form (inr of_total) = total_holds p most form of_total
 
 -- each true form is among the possible forms
 pub total_forms_listed : (p : DesignProblem) (most : ℕ) (form : Form) → IsTrueWithin p most form → Contains (possible_forms_within p most) form
-total_forms_listed p most form (inl of_row) = Contains-append_right (form_of_total p most ∷ []) (possible_forms_of_problem p) form (rivals.rival_forms_listed p form of_row)
+total_forms_listed p most form (inl of_row) = Contains-append_right (form_of_total p most ∷ []) (possible_forms_of_problem p) form
+    (rivals.rival_forms_listed p form of_row)
 total_forms_listed p most form (inr of_total) = (0, omega arith, sym of_total.same)
 
 -- What is accepted at multiples of costs is accepted at the costs.
@@ -115,7 +116,8 @@ total_value_scaled f w s =
     ∙ ap (λ (z : ℤ). z *ℤ pos s) (ring (f.constant ∷ dot f.coefficients w ∷ []) (var 0 ⊕ var 1) (var 0 ⊗ num (pos 1) ⊕ var 1) refl)
 
 -- what is accepted at multiples of costs is accepted at the costs
-pub total_scale_is_free : (p : DesignProblem) (most : ℕ) (w : List ℕ) (scale : ℕ) → 0 < scale → LeadsWithin p most (scaled w scale) → LeadsWithin p most (at_costs w)
+pub total_scale_is_free : (p : DesignProblem) (most : ℕ) (w : List ℕ) (scale : ℕ) → 0 < scale → LeadsWithin p most (scaled w scale) →
+    LeadsWithin p most (at_costs w)
 total_scale_is_free p most w scale some within = record {
   leads = rivals.rival_scale_is_free p w scale some within.leads;
   within =

@@ -28,7 +28,8 @@ use Rattle.live_area.specs.LiveCosts.{costed_by, costed_from, live_metric, metri
 
 -- Metrics of links are above 0.
 
-among_above : (router : ℕ) (links : List LsaLink) → list_any is_zero_link links ≡ false → AllByRecursion (λ (l : LiveLink). 0 < l.metric) (live_links_among router links)
+among_above : (router : ℕ) (links : List LsaLink) → list_any is_zero_link links ≡ false →
+    AllByRecursion (λ (l : LiveLink). 0 < l.metric) (live_links_among router links)
 among_above router [] none = tt
 among_above router (link ∷ more) none =
     let parts = or_parts (is_zero_link link) (list_any is_zero_link more) none in
@@ -87,7 +88,8 @@ costed_are f metrics l (link ∷ links) each =
     (λ k x at. let next : l + 1 + k ≡ l + suc k = omega arith in ap (λ n. slice_index_or metrics n None) next ∙ each (suc k) x at) in
     rw (head, tail) refl
 
-metric_here : (f : Linked → Option ℕ) (links : List Linked) (k : ℕ) (link : Linked) → slice_get links k ≡ Some link → slice_index_or (map f links) k None ≡ f link
+metric_here : (f : Linked → Option ℕ) (links : List Linked) (k : ℕ) (link : Linked) → slice_get links k ≡ Some link →
+    slice_index_or (map f links) k None ≡ f link
 metric_here f links k link at = get_or_from_slice_get (map f links) k (f link) None (at_map f links k link at)
 
 -- Areas with other costs above 0.
@@ -134,8 +136,10 @@ leads_stay f s (Some link) = refl
 
 members_stay : (f : Linked → Option ℕ) (d : Database) (s : ℕ) → links_into_subnet (with_costs f d) s ≡ links_into_subnet d s
 members_stay f d s =
-    ap (λ n. filter (λ l. link_leads_to s (slice_get (map (λ x. costed_by (f x) x) d.links) l)) (numbers_from 0 n)) (length-map d.links (λ x. costed_by (f x) x))
-    ∙ filter-numbers_from-agree (λ l. link_leads_to s (slice_get (map (λ x. costed_by (f x) x) d.links) l)) (λ l. link_leads_to s (slice_get d.links l)) 0 (length d.links)
+    ap (λ n. filter (λ l. link_leads_to s (slice_get (map (λ x. costed_by (f x) x) d.links) l)) (numbers_from 0 n))
+        (length-map d.links (λ x. costed_by (f x) x))
+    ∙ filter-numbers_from-agree (λ l. link_leads_to s (slice_get (map (λ x. costed_by (f x) x) d.links) l)) (λ l. link_leads_to s (slice_get d.links l)) 0
+        (length d.links)
     (λ l from below. ap (link_leads_to s) (slice_get-map (λ x. costed_by (f x) x) d.links l) ∙ leads_stay f s (slice_get d.links l))
 
 area_stays : (f : Linked → Option ℕ) (d : Database) → ((link : Linked) → IfSome (f link) (λ c. 0 < c)) → IsAreaDatabase d → IsAreaDatabase (with_costs f d)

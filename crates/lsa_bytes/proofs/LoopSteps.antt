@@ -50,7 +50,8 @@ id_more kind i links d before now all within is_now so_far =
     by_test false id = sym (append-nil before)
 
 -- the edges out of the vertex of one LSA more, if it is of the kind
-pub edges_more : (all : List Lsa) (kind : Kind) (vertex next i : ℕ) (lsas read : List Lsa) (lsa : Lsa) (before now whole : List Edge) → read ≡ lsas → i < length read →
+pub edges_more : (all : List Lsa) (kind : Kind) (vertex next i : ℕ) (lsas read : List Lsa) (lsa : Lsa) (before now whole : List Edge) → read ≡ lsas →
+    i < length read →
     lsa ≡ get_or read i lsa → next ≡ vertex + cond (is_kind kind lsa) 1 0 →
     now ≡ before ++ cond (is_kind kind lsa) (edges_from all vertex lsa lsa.body) [] →
     before ++ edges_in_order all vertex (filter (is_kind kind) (drop i lsas)) ≡ whole →
@@ -59,8 +60,10 @@ edges_more all kind vertex next i lsas read lsa before now whole same within is 
     let here = cond (is_kind kind lsa) (edges_from all vertex lsa lsa.body) [] in
     let left = filter (is_kind kind) (drop (i + 1) lsas) in
     ap (λ (v : ℕ). now ++ edges_in_order all v left) next_is
-    ∙ added before here now (edges_in_order all vertex (filter (is_kind kind) (drop i lsas))) (edges_in_order all (vertex + cond (is_kind kind lsa) 1 0) left) whole
-    (edges_step all kind vertex i lsas lsa (subst (λ (ls : List Lsa). i < length ls) same within) (subst (λ (ls : List Lsa). lsa ≡ get_or ls i lsa) same is)) is_now so_far
+    ∙ added before here now (edges_in_order all vertex (filter (is_kind kind) (drop i lsas))) (edges_in_order all (vertex + cond (is_kind kind lsa) 1 0) left)
+        whole
+    (edges_step all kind vertex i lsas lsa (subst (λ (ls : List Lsa). i < length ls) same within) (subst (λ (ls : List Lsa). lsa ≡ get_or ls i lsa) same is))
+        is_now so_far
 
 -- the next vertex is near
 pub near_more : (b : Bool) (vertex next first i : ℕ) → next ≡ vertex + cond b 1 0 → vertex ≤ first + i → next ≤ first + (i + 1)

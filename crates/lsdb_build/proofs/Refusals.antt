@@ -44,7 +44,8 @@ first_some-some : (f : Option FaultyPlace) (more : List (Option FaultyPlace)) (f
 first_some-some None more fault h = absurd (none-some fault h)
 first_some-some (Some other) more fault h = h
 
-tells_first : (f : Option FaultyPlace) (more : List (Option FaultyPlace)) (stop : Refusal TopologyFault ConfigLine) → Tells f stop → Tells (first_some (f ∷ more)) stop
+tells_first : (f : Option FaultyPlace) (more : List (Option FaultyPlace)) (stop : Refusal TopologyFault ConfigLine) → Tells f stop →
+    Tells (first_some (f ∷ more)) stop
 tells_first f more (Refused fault place) h = first_some-some f more (record { fault = fault; config = place.config; line = place.line }) h
 tells_first f more OutOfMemory h = tt
 

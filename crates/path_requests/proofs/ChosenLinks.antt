@@ -86,7 +86,8 @@ pub decided_unknown : {X : Type 0} (d : Database) (router interface : List ℕ) 
     map f d.links ≡ map (λ link.
     option_or (f link) (if is_link_named d router interface link then Some range else None)) d.links
 decided_unknown d router interface f range unknown =
-    map_agree (is_link_named d router interface) f (λ link. option_or (f link) (if is_link_named d router interface link then Some range else None)) d.links unknown
+    map_agree (is_link_named d router interface) f (λ link. option_or (f link) (if is_link_named d router interface link then Some range else None)) d.links
+        unknown
     (λ link unnamed. or_none (f link) ∙ ap (λ b. option_or (f link) (if b then Some range else None)) (sym unnamed))
 
 pub number_within : (d : Database) (router interface : List ℕ) → IsAreaDatabase d → knows_link d router interface ≡ true →
@@ -121,7 +122,8 @@ marked_unknown d router interface f unknown =
 
 -- Lines that make links symmetric.
 
-tied_apart : (d : Database) (link : Linked) (directive : Directive) → says_symmetric d link directive ≡ ((ties_all directive && is_some link.link_back) || ties_one d link directive)
+tied_apart : (d : Database) (link : Linked) (directive : Directive) →
+    says_symmetric d link directive ≡ ((ties_all directive && is_some link.link_back) || ties_one d link directive)
 tied_apart d link SymmetricAll = sym (or-false (is_some link.link_back))
 tied_apart d link (Symmetric router interface) = refl
 tied_apart d link (FreeAll lo hi) = refl

@@ -61,7 +61,8 @@ one_said d link (Path route without) none = refl
 one_said d link SymmetricAll none = refl
 one_said d link (Symmetric router interface) none = refl
 
-all_said : (d : Database) (link : Linked) (directive : Directive) (range : Range) → said_of_all directive ≡ Some range → range_said d link directive ≡ Some range
+all_said : (d : Database) (link : Linked) (directive : Directive) (range : Range) → said_of_all directive ≡ Some range →
+    range_said d link directive ≡ Some range
 all_said d link (FreeAll lo hi) range is = is
 all_said d link (Free router interface lo hi) range is = absurd (cc)
 all_said d link (Fix router interface) range is = absurd (cc)

@@ -110,7 +110,8 @@ has_owner a d l link base none there free = by_link_back link.link_back refl
     moved : (k : ℕ) → k < length d.links → own a d k ≡ true → owner a d l ≡ k → HasOwner a d l
     moved k below owns same = record { within = omega (arith, same, below); owns = ap (own a d) same ∙ owns }
 
-    owner_is : (k : ℕ) (x : Linked) (m : ℕ) → slice_get d.links k ≡ Some x → x.link_back ≡ Some m → owner a d k ≡ (if is_symmetric a d x && nat_lt m k then m else k)
+    owner_is : (k : ℕ) (x : Linked) (m : ℕ) → slice_get d.links k ≡ Some x → x.link_back ≡ Some m →
+        owner a d k ≡ (if is_symmetric a d x && nat_lt m k then m else k)
     owner_is k x m at is = ap (owner_at a d k) at ∙ ap (owner_by_link_back (is_symmetric a d x) k) is
 
     within : l < length d.links

@@ -52,7 +52,8 @@ use Rattle.path_requests.proofs.VariableOwners.{has_owner, variable_is, variable
 abbrev Bounds : Range → Type 0
 Bounds range = is_free range ≡ true → (1 ≤ low_of range) × (low_of range ≤ high_of range)
 
-said_bounds : (d : Database) (link : Linked) (directive : Directive) (range : Range) → HasGoodBounds directive → Bounds range → Bounds (unwrap_or (range_said d link directive) range)
+said_bounds : (d : Database) (link : Linked) (directive : Directive) (range : Range) → HasGoodBounds directive → Bounds range →
+    Bounds (unwrap_or (range_said d link directive) range)
 said_bounds d link (FreeAll lo hi) range keeps before = λ free. keeps
 said_bounds d link (Free router interface lo hi) range keeps before = by_test (is_link_named d router interface link)
   where
@@ -206,7 +207,8 @@ avoids_excluded d g parts [] none within = tt
 avoids_excluded d g parts (e ∷ es) none within =
     let split = or_parts (list_any (excludes d g e) parts) (list_any (λ e. list_any (excludes d g e) parts) es) none in
     let below = All-head (λ e. e < length g.edges) e es within in (
-      lacks_from (excluded_edges d g parts) e (has_kept (λ e. list_any (excludes d g e) parts) 0 (length g.edges) e (omega arith) (omega (arith, below)) ∙ split.0),
+      lacks_from (excluded_edges d g parts) e (has_kept (λ e. list_any (excludes d g e) parts) 0 (length g.edges) e (omega arith) (omega (arith, below)) ∙
+          split.0),
       avoids_excluded d g parts es split.1 (All-tail (λ e. e < length g.edges) e es within),
     )
 

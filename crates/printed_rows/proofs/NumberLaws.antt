@@ -42,7 +42,8 @@ first : (n : ℕ) → 0 + n ≡ n
 first n = omega arith
 
 -- one number more
-pub numbers_more : (named : ℕ → Bool) (numbers : List ℕ) (i : ℕ) → AreNewNumbers named i numbers → AreNewNumbers named (i + 1) (numbers ++ new_number named i ∷ [])
+pub numbers_more : (named : ℕ → Bool) (numbers : List ℕ) (i : ℕ) → AreNewNumbers named i numbers →
+    AreNewNumbers named (i + 1) (numbers ++ new_number named i ∷ [])
 numbers_more named numbers i are =
     ap (λ (ns : List ℕ). ns ++ new_number named i ∷ []) are
     ∙ sym (map-append (new_number named) (numbers_from 0 i) (i ∷ []))
@@ -102,7 +103,8 @@ order_kept named n numbers (Halve var value wide) are known = tt
 order_kept named n numbers (Refute parts) are known = parts_rise named n numbers parts are known
 order_kept named n numbers Undone are known = tt
 
-pub parts_positive : (number : ℕ → ℕ) (parts : List (ℕ × ℕ)) → All (λ part. 0 < part.1) parts → All (λ part. 0 < part.1) (map (renumbered_multiplier number) parts)
+pub parts_positive : (number : ℕ → ℕ) (parts : List (ℕ × ℕ)) → All (λ part. 0 < part.1) parts →
+    All (λ part. 0 < part.1) (map (renumbered_multiplier number) parts)
 parts_positive number parts positive = All-map (λ (part : ℕ × ℕ). 0 < part.1) (renumbered_multiplier number) parts positive
 
 same_subtrees : (number : ℕ → ℕ) (entry : Entry) → subtree_count (renumbered number entry) ≡ subtree_count entry
@@ -118,4 +120,5 @@ whole_kept number zero [] whole = whole
 whole_kept number (suc n) [] whole = absurd whole
 whole_kept number zero (e ∷ entries) whole = absurd whole
 whole_kept number (suc n) (e ∷ entries) whole =
-    subst (λ k. AreSeveralTrees (k + n) (map (renumbered number) entries)) (sym (same_subtrees number e)) (whole_kept number (subtree_count e + n) entries whole)
+    subst (λ k. AreSeveralTrees (k + n) (map (renumbered number) entries)) (sym (same_subtrees number e))
+        (whole_kept number (subtree_count e + n) entries whole)

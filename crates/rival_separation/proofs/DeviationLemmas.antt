@@ -99,7 +99,8 @@ best_by Deviates once place n todo best None result is none same =
     subst (λ (d : Option Deviation). IsBestDeviation Deviates (SeenBut place todo) d) (sym same)
     (best_without Deviates place n todo best is none)
 best_by Deviates once place n todo best (Some cost) None is deviation better = absurd better
-best_by Deviates once place n todo best (Some cost) (Some result) is deviation better = best_with Deviates once place n cost todo best result is deviation better
+best_by Deviates once place n todo best (Some cost) (Some result) is deviation better = best_with Deviates once place n cost todo best result is deviation
+    better
 
 -- the next of the edges at a place was looked at; they are read from another list that is the same
 pub best_turn : (Deviates : ℕ → ℕ → ℕ → Type 0) → DeviatesOnce Deviates →

@@ -123,7 +123,8 @@ deviated g p ends limit room graph found end u before (n ∷ path) (e ∷ rest) 
             place = later.place;
             edge = later.edge;
             total = later.total;
-            deviation = subst (λ (es : List ℕ). DeviatesFromPath g p ends.excluded room es later.place later.edge later.total) (append_assoc before (n ∷ []) path) later.deviation;
+            deviation = subst (λ (es : List ℕ). DeviatesFromPath g p ends.excluded room es later.place later.edge later.total)
+                (append_assoc before (n ∷ []) path) later.deviation;
             within = let most = later.within in omega arith;
           }
     ]
@@ -263,7 +264,8 @@ pub found_as : (g : Area) (p : Point) (ends others : Ends) (limit : ℕ) (room :
 found_as g p ends others limit room found same_end same_excluded =
     let same : (record { start = others.start; end = ends.end; excluded = ends.excluded }) ≡ others =
     λ i. record { start = others.start; end = same_end i; excluded = same_excluded i } in
-    subst (λ (x : Ends). HasDistancesBelow g p x limit room) same (record { room_for = found.room_for; marks = found.marks; least = found.least; tight = found.tight })
+    subst (λ (x : Ends). HasDistancesBelow g p x limit room) same (record { room_for = found.room_for; marks = found.marks; least = found.least; tight =
+        found.tight })
 
 -- numbers that add up
 record Sums (from to : Option ℕ) (price : ℕ) : Type 0 where

@@ -28,7 +28,8 @@ pub record DeviatesFromPath (g : Area) (p : Point) (excluded : List ℕ) (room :
 -- the best of the deviations that were seen: none of them costs less; or there was none
 abbrev pub IsBestDeviation : (ℕ → ℕ → ℕ → Type 0) → (ℕ → ℕ → Type 0) → Option Deviation → Type 0
 IsBestDeviation Deviates Seen None = (place e total : ℕ) → Seen place e → Deviates place e total → ⊥
-IsBestDeviation Deviates Seen (Some best) = Deviates best.place best.edge best.cost × ((place e total : ℕ) → Seen place e → Deviates place e total → best.cost ≤ total)
+IsBestDeviation Deviates Seen (Some best) = Deviates best.place best.edge best.cost ×
+    ((place e total : ℕ) → Seen place e → Deviates place e total → best.cost ≤ total)
 
 -- the better of the best deviation so far and a later one: the first, unless the later one costs less
 abbrev pub IsBetter : Option Deviation → Deviation → Deviation → Type 0

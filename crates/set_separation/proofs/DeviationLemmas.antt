@@ -142,7 +142,8 @@ module _ (g : Area) (ends : Ends) (wanted : List (List ℕ)) (steps : List Step)
       omega arith
 
 -- a deviation by an edge at a place has one cost
-pub deviates_once : (g : Area) (p : Point) (ends : Ends) (room : Findings) (steps : List Step) (costs : List ℕ) → DeviatesOnce (DeviatesFromTree g p ends room steps costs)
+pub deviates_once : (g : Area) (p : Point) (ends : Ends) (room : Findings) (steps : List Step) (costs : List ℕ) →
+    DeviatesOnce (DeviatesFromTree g p ends room steps costs)
 deviates_once g p ends room steps costs k e a b one two =
     let rest = same_Some one.onward.rest two.onward.rest (sym one.onward.distance ∙ two.onward.distance) in
     let first = one.onward.sums in

@@ -44,7 +44,8 @@ pub record IsGrown (wanted done : List (List ℕ)) (steps : List Step) : Type 0 
   pub grown : (i : ℕ) → i < length steps → prefix_of_place prefixes (i + 1) ≡ prefix_of_place prefixes (step_at steps i).place ++ (step_at steps i).edge ∷ []
   pub different : (k l : ℕ) → k ≤ length steps → l ≤ length steps → prefix_of_place prefixes k ≡ prefix_of_place prefixes l → k ≡ l
   pub begun : (k : ℕ) → k ≤ length steps → BeginsOneOf wanted (prefix_of_place prefixes k)
-  pub passed : (path : List ℕ) → Contains done path → (k e : ℕ) (rest : List ℕ) → k ≤ length steps → path ≡ prefix_of_place prefixes k ++ e ∷ rest → HasStep steps k e
+  pub passed : (path : List ℕ) → Contains done path → (k e : ℕ) (rest : List ℕ) → k ≤ length steps → path ≡ prefix_of_place prefixes k ++ e ∷ rest →
+      HasStep steps k e
 
 -- the tree of the prefixes of wanted paths of a request
 pub record IsPrefixTree (g : Area) (ends : Ends) (wanted : List (List ℕ)) (steps : List Step) : Type 0 where

@@ -16,7 +16,8 @@ not_nearer : (x y : ℕ) (o : Ordering) → is_lt (ordering_then (nat_cmp y x) o
 not_nearer x y o h = grind (arith, nat_tests)
 
 -- none is nearer than the one that is above all
-pub nearest : (x : Reverse WaitingVertex) (xs : List (Reverse WaitingVertex)) → IsUpperBound reversed x xs → All (λ other. x.0.distance ≤ other.distance) (map (λ r. r.0) xs)
+pub nearest : (x : Reverse WaitingVertex) (xs : List (Reverse WaitingVertex)) → IsUpperBound reversed x xs →
+    All (λ other. x.0.distance ≤ other.distance) (map (λ r. r.0) xs)
 nearest x [] above = All-nil (λ (other : WaitingVertex). x.0.distance ≤ other.distance)
 nearest x (y ∷ ys) above =
     All-cons (λ (other : WaitingVertex). x.0.distance ≤ other.distance) y.0 (map (λ r. r.0) ys)

@@ -73,7 +73,8 @@ same_short name i j first second third =
     let words = spaced-le (codes "same" ∷ decimal name ∷ decimal i ∷ decimal j ∷ []) in
     omega (arith, thing_digits name first, thing_digits i second, thing_digits j third)
 
-set_row_short : (p : DesignProblem) (sets : List (List ℕ)) (row : SetRow) → IsProblemOnGraph p → AreMemberSets p sets → IsSetRow p sets row → IsTextLine (set_row_line row)
+set_row_short : (p : DesignProblem) (sets : List (List ℕ)) (row : SetRow) → IsProblemOnGraph p → AreMemberSets p sets → IsSetRow p sets row →
+    IsTextLine (set_row_line row)
 set_row_short p sets (Outsider name es) kept are is =
     let set_is = All-contains (IsMemberSet p) sets is.0 are is.1.listed in
     let row : Row = record { request = name; rival = es } in

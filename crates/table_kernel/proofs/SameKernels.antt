@@ -30,7 +30,8 @@ pub same_shaped : (old new : Kernel) → HoldsSame old.table new.table → Holds
 same_shaped old new t h s =
     let width : width_of new ≡ width_of old = ap (λ (costs : CostBox). length costs.low) t.costs in
     let constants = ap length h.constants in
-    let counted : length (members_of_box new.table.costs (length new.table.rows.items)) ≡ length (members_of_box old.table.costs (length old.table.rows.items)) =
+    let counted : length (members_of_box new.table.costs (length new.table.rows.items)) ≡
+        length (members_of_box old.table.costs (length old.table.rows.items)) =
     ap (λ (costs : CostBox). length (members_of_box costs (length new.table.rows.items))) t.costs
     ∙ ap (λ (rows : List Form). length (members_of_box old.table.costs (length rows))) t.rows in
     record {
@@ -65,7 +66,8 @@ same_bounded old new t h b =
       divides = subst (λ (z : ℤ). All (λ (line : Line). nat_abs line.denominator ∣ nat_abs z) new.lows.items) (sym h.common)
           (subst (λ (ls : Vec Line Global). All (λ (line : Line). nat_abs line.denominator ∣ nat_abs old.common) ls.items) (sym h.lows) b.divides);
       low = subst (λ (z : ℤ). All (λ (line : Line). nat_abs line.constant * share_of (nat_abs z) line ≤ 2 ^ 44) new.lows.items) (sym h.common)
-          (subst (λ (ls : Vec Line Global). All (λ (line : Line). nat_abs line.constant * share_of (nat_abs old.common) line ≤ 2 ^ 44) ls.items) (sym h.lows) b.low);
+          (subst (λ (ls : Vec Line Global). All (λ (line : Line). nat_abs line.constant * share_of (nat_abs old.common) line ≤ 2 ^ 44) ls.items) (sym h.lows)
+              b.low);
       rows = subst (All (λ (row : Form). weight_of row ≤ 2 ^ 16)) (sym t.rows) b.rows;
       constants = subst (AllWithin (2 ^ 62)) (sym h.constants) b.constants;
     }

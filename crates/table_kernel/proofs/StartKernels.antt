@@ -73,7 +73,8 @@ first_long costs =
     ∙ ap (λ (k : ℕ). n + k) (length-map-numbers_from (λ v. pos (slice_index costs.high v) -ℤ pos (slice_index costs.low v)) 0 n)
 
 -- they are the values of the box's forms there
-values_first : (costs : CostBox) → map (λ member. value_for_costs (member_form (length costs.low) [] member) costs.low) (members_of_box costs 0) ≡ first_constants costs
+values_first : (costs : CostBox) → map (λ member. value_for_costs (member_form (length costs.low) [] member) costs.low) (members_of_box costs 0) ≡
+    first_constants costs
 values_first costs =
     let n = length costs.low in
     let at : Member → ℤ = λ member. value_for_costs (member_form n [] member) costs.low in

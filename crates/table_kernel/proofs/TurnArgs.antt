@@ -108,7 +108,8 @@ at_pivot k column v line r is =
     }
 
 -- its turn is that of the line, as it is read
-pub turn_is_at : (k : Kernel) (column v : ℕ) (line : Line) (turn : Turn) → line ≡ line_of k v → turn ≡ turn_of_line k column v → turn ≡ turn_at k.entering column line
+pub turn_is_at : (k : Kernel) (column v : ℕ) (line : Line) (turn : Turn) → line ≡ line_of k v → turn ≡ turn_of_line k column v →
+    turn ≡ turn_at k.entering column line
 turn_is_at k column v line turn is turn_is = turn_is ∙ ap (turn_at k.entering column) (sym is)
 
 -- what holds of both as they are read

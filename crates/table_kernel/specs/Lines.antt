@@ -65,7 +65,8 @@ pub data IsLineTooLarge (k : Kernel) (place : ℕ) : Type 0 where
 -- the first column, over its positive number in the entering line, doesn't come after the second one over its own
 abbrev pub IsNotAfterInKernel : Kernel → ℕ → ℕ → Type 0
 IsNotAfterInKernel k first second =
-    LeadsNoNegative (turned_column (nat_abs (number_at k.entering.numbers first)) (column_of k second) (number_at k.entering.numbers second) (column_of k first))
+    LeadsNoNegative (turned_column (nat_abs (number_at k.entering.numbers first)) (column_of k second) (number_at k.entering.numbers second)
+        (column_of k first))
 
 -- a best of the columns in which the entering line is positive; none where it is positive in none
 abbrev pub IsBestColumn : Kernel → Option ℕ → Type 0

@@ -107,7 +107,8 @@ has_part d g e (Interface router interface) within =
     let l = link_number d router interface in
     has_link d g l e (slice_get d.links l) within
 
-pub has_parts : (d : Database) (g : Area) (e : ℕ) (parts : List Excluded) → e < length g.edges → has e (excluded_by_all d g parts) ≡ list_any (excludes d g e) parts
+pub has_parts : (d : Database) (g : Area) (e : ℕ) (parts : List Excluded) → e < length g.edges →
+    has e (excluded_by_all d g parts) ≡ list_any (excludes d g e) parts
 has_parts d g e [] within = refl
 has_parts d g e (part ∷ parts) within =
     list_any-append (λ x. e == x) (excluded_by d g part) (excluded_by_all d g parts)

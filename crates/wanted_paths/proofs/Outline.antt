@@ -107,7 +107,8 @@ excludes_same d g h e (Interface router interface) same =
     let l = link_number d router interface in
     link_excludes_same d g h l (slice_get d.links l) e same
 
-any_excludes_same : (d : Database) (g h : Area) (e : ℕ) (parts : List Excluded) → SameEnds g h → list_any (excludes d g e) parts ≡ list_any (excludes d h e) parts
+any_excludes_same : (d : Database) (g h : Area) (e : ℕ) (parts : List Excluded) → SameEnds g h →
+    list_any (excludes d g e) parts ≡ list_any (excludes d h e) parts
 any_excludes_same d g h e [] same = refl
 any_excludes_same d g h e (part ∷ parts) same = rw (excludes_same d g h e part same, any_excludes_same d g h e parts same) refl
 

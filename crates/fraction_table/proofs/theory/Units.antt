@@ -66,7 +66,8 @@ unit_dot v c xs v_in =
     ∙ ap (λ (ts : List ℤ). c *ℤ number_at ts 0) (get_or-map (λ (x : ℕ). pos x ∷ []) xs v 0 [] v_in)
 
 -- x - low is 0 at the low corner, and high - x is high - low there
-pub low_value : (low : List ℕ) (rows : List Form) (v : ℕ) → v < length low → value_for_costs (member_form (length low) rows (Low v (slice_index low v))) low ≡ pos 0
+pub low_value : (low : List ℕ) (rows : List Form) (v : ℕ) → v < length low →
+    value_for_costs (member_form (length low) rows (Low v (slice_index low v))) low ≡ pos 0
 low_value low rows v v_in =
     ap (λ z. neg_ℤ (pos (slice_index low v)) +ℤ z) (unit_dot v (pos 1) low v_in)
     ∙ ring (pos (slice_index low v) ∷ []) (neg (var 0) ⊕ num (pos 1) ⊗ var 0) (num (pos 0)) refl

@@ -41,7 +41,8 @@ fewest_text-requires-clause-costs c =
     let at = (goal.at.fewest_text-requires-clause-costs c).After-keeps_greatest_bound in
     let network = c.args.network.now in
     let shown = told at _ c.in-Fewest.is in
-    changed_short network.request_file network.lsdb network.problem c.in-Fewest.costs c.requires.built (asks at).problem (asks at).bound_small shown.fewest.fit.within
+    changed_short network.request_file network.lsdb network.problem c.in-Fewest.costs c.requires.built (asks at).problem (asks at).bound_small
+        shown.fewest.fit.within
 
 pub fewest_text-requires-clause-cores : goal.fewest_text-requires-clause-cores
 fewest_text-requires-clause-cores c =

@@ -6,7 +6,8 @@ pub loop-number-init : goal.loop-number-init
 loop-number-init c = record { room = c.requires.room; held = held_none c.args.rollout.now c.new-held.result.items c.new-held.ensures.items }
 
 pub is_only_in_both-is_held-requires-clause-known : goal.is_only_in_both-is_held-requires-clause-known
-is_only_in_both-is_held-requires-clause-known c = let below = c.loop-number-test.true in let count = c.request_count-number-end.ensures in omega (arith, below, count)
+is_only_in_both-is_held-requires-clause-known c = let below = c.loop-number-test.true in let count = c.request_count-number-end.ensures in
+    omega (arith, below, count)
 
 pub is_only_in_both-is_held-requires-clause-room : goal.is_only_in_both-is_held-requires-clause-room
 is_only_in_both-is_held-requires-clause-room c = c.loop-number.invariant.room

@@ -69,8 +69,10 @@ pub returns-in-Conflict-clause-made : goal.returns-in-Conflict-clause-made
 returns-in-Conflict-clause-made g c =
     let given = g.S.Shelf.gave c.args.shelf.now c.conflict_report.new.shelf in
     let s = search_seen c.in-Conflict.search in
-    search_made given _ c.args.job.now (read.Conflict s) (MayConflict s.limits) _ _ c.conflict_report.result (files_named c.words-in-Conflict.result) (searched s)
-    (ap read.seen c.in-Conflict.is) c.words-in-Conflict.ensures c.conflict_report.ensures.read c.conflict_report.ensures.stopped (λ came h. h) (λ came bytes h. h)
+    search_made given _ c.args.job.now (read.Conflict s) (MayConflict s.limits) _ _ c.conflict_report.result (files_named c.words-in-Conflict.result)
+        (searched s)
+    (ap read.seen c.in-Conflict.is) c.words-in-Conflict.ensures c.conflict_report.ensures.read c.conflict_report.ensures.stopped (λ came h. h)
+        (λ came bytes h. h)
 
 pub returns-in-Spread-clause-made : goal.returns-in-Spread-clause-made
 returns-in-Spread-clause-made g c =

@@ -19,7 +19,8 @@ returns-in_err-found-clause-asked g c =
 pub returns-in_ok-split_there-in-None-clause-next : goal.returns-in_ok-split_there-in-None-clause-next
 returns-in_ok-split_there-in-None-clause-next g c = λ top old new since.
     let entry = c.in_ok-split_there-in-None.field-0 in
-    next_split_at (g.S.FormSource.accepted c.args.source.now) top (g.S.FormSource.count c.args.source.now) new (record { box = c.args.costs.now; since = since })
+    next_split_at (g.S.FormSource.accepted c.args.source.now) top (g.S.FormSource.count c.args.source.now) new
+        (record { box = c.args.costs.now; since = since })
     c.args.desk.now.point entry c.requires.ranges.is_box c.requires.least.least
     (subst (λ (p : Point). IsSplitAt c.args.costs.now p entry) c.costs_there.ensures.point c.in_ok-split_there-in-None.ensures.split)
 
@@ -59,10 +60,12 @@ pub returns-in_err-found-clause-next : goal.returns-in_err-found-clause-next
 returns-in_err-found-clause-next g c = let p = err_from_is_err_and c.from_residual.result c.from_residual.ensures.1 in rw p.1 tt
 
 pub returns-in_err-split_there-in-None-clause-next : goal.returns-in_err-split_there-in-None-clause-next
-returns-in_err-split_there-in-None-clause-next g c = let p = err_from_is_err_and c.from_residual-in_err-split_there-in-None.result c.from_residual-in_err-split_there-in-None.ensures.1 in rw p.1 tt
+returns-in_err-split_there-in-None-clause-next g c = let p = err_from_is_err_and c.from_residual-in_err-split_there-in-None.result
+    c.from_residual-in_err-split_there-in-None.ensures.1 in rw p.1 tt
 
 pub returns-in_err-found-clause-desk : goal.returns-in_err-found-clause-desk
-returns-in_err-found-clause-desk g c = ap (λ (p : Point). record { watch = c.args.desk.now.watch; point = p; top = c.args.desk.now.top }) c.costs_there.ensures.point
+returns-in_err-found-clause-desk g c = ap (λ (p : Point). record { watch = c.args.desk.now.watch; point = p; top = c.args.desk.now.top })
+    c.costs_there.ensures.point
 
 pub returns-in_err-found-clause-in_step : goal.returns-in_err-found-clause-in_step
 returns-in_err-found-clause-in_step g c = c.costs_there.ensures.in_step
@@ -71,7 +74,8 @@ pub returns-in_err-found-clause-same : goal.returns-in_err-found-clause-same
 returns-in_err-found-clause-same g c = c.costs_there.ensures.same
 
 pub returns-in_err-split_there-in-None-clause-desk : goal.returns-in_err-split_there-in-None-clause-desk
-returns-in_err-split_there-in-None-clause-desk g c = ap (λ (p : Point). record { watch = c.args.desk.now.watch; point = p; top = c.args.desk.now.top }) c.costs_there.ensures.point
+returns-in_err-split_there-in-None-clause-desk g c = ap (λ (p : Point). record { watch = c.args.desk.now.watch; point = p; top = c.args.desk.now.top })
+    c.costs_there.ensures.point
 
 pub returns-in_err-split_there-in-None-clause-in_step : goal.returns-in_err-split_there-in-None-clause-in_step
 returns-in_err-split_there-in-None-clause-in_step g c = c.costs_there.ensures.in_step
@@ -80,7 +84,8 @@ pub returns-in_err-split_there-in-None-clause-same : goal.returns-in_err-split_t
 returns-in_err-split_there-in-None-clause-same g c = c.costs_there.ensures.same
 
 pub returns-in_ok-split_there-in-None-clause-desk : goal.returns-in_ok-split_there-in-None-clause-desk
-returns-in_ok-split_there-in-None-clause-desk g c = ap (λ (p : Point). record { watch = c.args.desk.now.watch; point = p; top = c.args.desk.now.top }) c.costs_there.ensures.point
+returns-in_ok-split_there-in-None-clause-desk g c = ap (λ (p : Point). record { watch = c.args.desk.now.watch; point = p; top = c.args.desk.now.top })
+    c.costs_there.ensures.point
 
 pub returns-in_ok-split_there-in-None-clause-in_step : goal.returns-in_ok-split_there-in-None-clause-in_step
 returns-in_ok-split_there-in-None-clause-in_step g c = c.costs_there.ensures.in_step

@@ -33,7 +33,8 @@ pub returns-in_err-whole_costs-clause-found : goal.returns-in_err-whole_costs-cl
 returns-in_err-whole_costs-clause-found g c = let p = err_from_is_err_and c.from_residual.result c.from_residual.ensures.1 in rw p.1 tt
 
 pub returns-in_err-whole_costs-clause-fractional : goal.returns-in_err-whole_costs-clause-fractional
-returns-in_err-whole_costs-clause-fractional g c = let p = err_from_is_err_and c.from_residual.result c.from_residual.ensures.1 in rw p.1 (λ none whole. absurd (cc))
+returns-in_err-whole_costs-clause-fractional g c = let p = err_from_is_err_and c.from_residual.result c.from_residual.ensures.1 in
+    rw p.1 (λ none whole. absurd (cc))
 
 pub returns-in_err-whole_costs-clause-point : goal.returns-in_err-whole_costs-clause-point
 returns-in_err-whole_costs-clause-point g c = refl
@@ -42,7 +43,8 @@ pub returns-in_err-whole_costs-clause-in_step : goal.returns-in_err-whole_costs-
 returns-in_err-whole_costs-clause-in_step g c = λ forms. (λ is. is, λ is. is)
 
 pub returns-in_err-whole_costs-clause-same : goal.returns-in_err-whole_costs-clause-same
-returns-in_err-whole_costs-clause-same g c = same_alike g.S.FormSource.count g.S.FormSource.accepted g.S.FormSource.true_form g.S.FormSource.possible_forms c.args.source.now
+returns-in_err-whole_costs-clause-same g c = same_alike g.S.FormSource.count g.S.FormSource.accepted g.S.FormSource.true_form g.S.FormSource.possible_forms
+    c.args.source.now
 
 pub are_values_accepted-requires-clause-ranges : goal.are_values_accepted-requires-clause-ranges
 are_values_accepted-requires-clause-ranges g c = c.requires.ranges
@@ -51,10 +53,12 @@ pub are_values_accepted-requires-clause-inside : goal.are_values_accepted-requir
 are_values_accepted-requires-clause-inside g c = c.requires.least.least.inside
 
 pub returns-in_err-value_costs-clause-found : goal.returns-in_err-value_costs-clause-found
-returns-in_err-value_costs-clause-found g c = let p = err_from_is_err_and c.from_residual-in_err-value_costs.result c.from_residual-in_err-value_costs.ensures.1 in rw p.1 tt
+returns-in_err-value_costs-clause-found g c = let p = err_from_is_err_and c.from_residual-in_err-value_costs.result c.from_residual-in_err-value_costs.ensures.1
+    in rw p.1 tt
 
 pub returns-in_err-value_costs-clause-fractional : goal.returns-in_err-value_costs-clause-fractional
-returns-in_err-value_costs-clause-fractional g c = let p = err_from_is_err_and c.from_residual-in_err-value_costs.result c.from_residual-in_err-value_costs.ensures.1 in rw p.1 (λ none whole. absurd (cc))
+returns-in_err-value_costs-clause-fractional g c = let p = err_from_is_err_and c.from_residual-in_err-value_costs.result
+    c.from_residual-in_err-value_costs.ensures.1 in rw p.1 (λ none whole. absurd (cc))
 
 pub returns-in_err-value_costs-clause-point : goal.returns-in_err-value_costs-clause-point
 returns-in_err-value_costs-clause-point g c = c.are_values_accepted.ensures.point
@@ -87,7 +91,8 @@ pub returns-in_ok-whole_costs-clause-in_step : goal.returns-in_ok-whole_costs-cl
 returns-in_ok-whole_costs-clause-in_step g c = λ forms. (λ is. is, λ is. is)
 
 pub returns-in_ok-whole_costs-clause-same : goal.returns-in_ok-whole_costs-clause-same
-returns-in_ok-whole_costs-clause-same g c = same_alike g.S.FormSource.count g.S.FormSource.accepted g.S.FormSource.true_form g.S.FormSource.possible_forms c.args.source.now
+returns-in_ok-whole_costs-clause-same g c = same_alike g.S.FormSource.count g.S.FormSource.accepted g.S.FormSource.true_form g.S.FormSource.possible_forms
+    c.args.source.now
 
 pub returns-in_ok-value_costs-clause-found : goal.returns-in_ok-value_costs-clause-found
 returns-in_ok-value_costs-clause-found g c =

@@ -34,7 +34,8 @@ loop-var-preserved c =
       found = now.fractional;
       some = λ k before fractional. elim (cases_lt k var) [
         | inl less ↦ (let some = was.some k less fractional in let more = now.more in omega (arith, some, more))
-        | inr not ↦ (let same : k ≡ var = omega (arith, before, not) in now.some (subst (λ (i : ℕ). get_or point.values i 0 % point.scale ≡ 0 → ⊥) same fractional))
+        | inr not ↦ (let same : k ≡ var = omega (arith, before, not) in
+            now.some (subst (λ (i : ℕ). get_or point.values i 0 % point.scale ≡ 0 → ⊥) same fractional))
       ];
     }
 

@@ -31,7 +31,8 @@ pub returns-then-not-is_within-clause-in_step : goal.returns-then-not-is_within-
 returns-then-not-is_within-clause-in_step g c = λ forms. (λ is. is, λ is. is)
 
 pub returns-then-not-is_within-clause-same : goal.returns-then-not-is_within-clause-same
-returns-then-not-is_within-clause-same g c = same_alike g.S.FormSource.count g.S.FormSource.accepted g.S.FormSource.true_form g.S.FormSource.possible_forms c.args.source.now
+returns-then-not-is_within-clause-same g c = same_alike g.S.FormSource.count g.S.FormSource.accepted g.S.FormSource.true_form g.S.FormSource.possible_forms
+    c.args.source.now
 
 pub accepts-accepted-requires : goal.accepts-accepted-requires
 accepts-accepted-requires g c = record {

@@ -56,7 +56,8 @@ pub returns-in_err-least-clause-places : goal.returns-in_err-least-clause-places
 returns-in_err-least-clause-places g c = c.least.ensures.places
 
 pub returns-in_err-least-clause-left : goal.returns-in_err-least-clause-left
-returns-in_err-least-clause-left g c = leaves_failed g.S.FormSource c.args.source.now c.args.pool.now c.args.pool.now c.from_residual.result c.from_residual.ensures.0 refl
+returns-in_err-least-clause-left g c = leaves_failed g.S.FormSource c.args.source.now c.args.pool.now c.args.pool.now c.from_residual.result
+    c.from_residual.ensures.0 refl
 
 pub ask_least-requires-clause-in_step : goal.ask_least-requires-clause-in_step
 ask_least-requires-clause-in_step g c = c.requires.in_step

@@ -17,7 +17,8 @@ use Rattle.fraction_lines.proofs.turned_line.turn_line.Goals as goal
 
 -- the line's own entry is a number of the table
 own_is : (c : After-entry-own) → IsTableNumber c.args.top c.entry-own.result
-own_is c = subst (IsTableNumber c.args.top) (sym c.entry-own.ensures) (number_at c.args.top c.args.line.now (suc c.args.pivot.now.column) c.requires.numbers c.requires.pivot.place_in)
+own_is c = subst (IsTableNumber c.args.top) (sym c.entry-own.ensures) (number_at c.args.top c.args.line.now (suc c.args.pivot.now.column) c.requires.numbers
+    c.requires.pivot.place_in)
 
 pub cross-requires-clause-factor : goal.cross-requires-clause-factor
 cross-requires-clause-factor c = own_is (goal.at.cross-requires-clause-factor c).After-entry-own
@@ -46,7 +47,8 @@ returns-in_err-entered-clause-wide c =
     let ts = c.args.quotients.now in
     rw (p.1, p.2) (
       subst (λ (w : Wide). IsTurnStep fs ts (suc c.args.pivot.now.column) c.args.pivot.now.inverse w.step w.left w.right) (sym refused.named)
-          (subst (λ (q : Fraction). IsTurnStep fs ts (suc c.args.pivot.now.column) c.args.pivot.now.inverse Mul q c.args.pivot.now.inverse) (sym c.entry-own.ensures) entering),
+          (subst (λ (q : Fraction). IsTurnStep fs ts (suc c.args.pivot.now.column) c.args.pivot.now.inverse Mul q c.args.pivot.now.inverse)
+              (sym c.entry-own.ensures) entering),
       named_passes {X = Fraction} (Err wide) c.args.top Mul c.entry-own.result c.args.pivot.now.inverse refused,
     )
 

@@ -6,7 +6,8 @@ use Rattle.sections_reader.proofs.whose_text.text_of_bytes.Goals as goal
 pub returns-in-Some : goal.returns-in-Some
 returns-in-Some c =
     let bytes = c.args.bytes.now in
-    c.text_by_head.ensures ∙ sym (head-first bytes c.in-Some.line.now _ c.in-Some.ensures.parts (split-whole 10 bytes c.in-Some.line.now _ c.in-Some.ensures.pieces))
+    c.text_by_head.ensures ∙ sym (head-first bytes c.in-Some.line.now _ c.in-Some.ensures.parts
+        (split-whole 10 bytes c.in-Some.line.now _ c.in-Some.ensures.pieces))
 
 pub returns-in-None : goal.returns-in-None
 returns-in-None c =

@@ -55,4 +55,5 @@ returns c =
     best_past (DeviatesFromTree g c.args.outlook.now.point.now ends c.args.room.now c.args.costed.now.tree.now c.args.costed.now.costs.now) c.args.place
     c.loop-number.number-index (edges_out g (place_vertex g ends c.args.costed.now.tree.now c.args.place))
     c.edges_out-number-items.result.now
-    c.loop-number.found (c.edges_out-number-items.ensures ∙ ap (λ (v : ℕ). edges_out g v) c.vertex_of-vertex.ensures) c.loop-number-test.false c.loop-number.invariant
+    c.loop-number.found (c.edges_out-number-items.ensures ∙ ap (λ (v : ℕ). edges_out g v) c.vertex_of-vertex.ensures) c.loop-number-test.false
+        c.loop-number.invariant

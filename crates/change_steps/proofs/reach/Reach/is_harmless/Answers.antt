@@ -13,7 +13,8 @@ returns-then-contains c = λ falls.
     let edge_is = c.edge_of.ensures ∙ ap (λ (g : Area). edge_at g c.args.edge) c.graph.ensures in
     let edges_are = c.as_slice-edges.ensures ∙ ap (λ (q : Request). q.path.edges) c.request.ensures in
     record {
-      on = λ has. sym (c.price_rises-rises.ensures ∙ ap (λ (x : Edge). price_rises c.args.rollout.now.moves x.price) edge_is) ∙ not-true c.price_rises-rises.result falls;
+      on = λ has. sym (c.price_rises-rises.ensures ∙ ap (λ (x : Edge). price_rises c.args.rollout.now.moves x.price) edge_is) ∙
+          not-true c.price_rises-rises.result falls;
       off = λ away. absurd (away (subst (λ (es : List ℕ). Has es c.args.edge) edges_are
           (one_of_has c.as_slice-edges.result.now c.args.edge (sym c.contains.ensures.value ∙ c.if-contains.true))));
     }

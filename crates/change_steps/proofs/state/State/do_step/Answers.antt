@@ -16,12 +16,15 @@ put-requires-clause-known c =
     (variables_known c.args.rollout.now c.args.step c.keeps_conditions.ensures c.requires.step))
 
 pub put-requires-clause-costs : goal.put-requires-clause-costs
-put-requires-clause-costs c = ap length c.wanted.ensures ∙ c.keeps_conditions.ensures.moves.count ∙ sym (as_long (goal.at.put-requires-clause-costs c).After-wanted)
+put-requires-clause-costs c = ap length c.wanted.ensures ∙ c.keeps_conditions.ensures.moves.count ∙
+    sym (as_long (goal.at.put-requires-clause-costs c).After-wanted)
 
 pub returns-clause-state : goal.returns-clause-state
 returns-clause-state c = record {
   count = length-set c.args.self.now.done.items c.args.step _ ∙ c.requires.state.count;
   point = point_is c.args.self.now.point.scale c.put.new.values _ (ap (λ (p : Point). p.scale) c.requires.state.point)
-      (do_costs c.args.rollout.now c.args.self.now.done.items c.put.new.values c.args.self.now.point.values c.wanted.result.now c.variables.result.now c.args.step
-      c.requires.step c.requires.state.count (ap (λ (p : Point). p.values) c.requires.state.point) c.variables.ensures c.wanted.ensures c.put.ensures.count c.put.ensures.put);
+      (do_costs c.args.rollout.now c.args.self.now.done.items c.put.new.values c.args.self.now.point.values c.wanted.result.now c.variables.result.now
+          c.args.step
+      c.requires.step c.requires.state.count (ap (λ (p : Point). p.values) c.requires.state.point) c.variables.ensures c.wanted.ensures c.put.ensures.count
+          c.put.ensures.put);
 }
