@@ -49,8 +49,11 @@ pub lacks-wanted : (place : TextPlace) (bytes wanted : List ℕ) → AreReadAt p
     ((left : List ℕ) → IsFirstInText bytes wanted left → ⊥) → LacksLawful place bytes
 lacks-wanted place bytes wanted read only h line left parts one lawful =
     let same : line ≡ wanted = only line lawful.0 lawful.1.is in
-    h left (record { parts = parts ∙ ap (λ l. l ++ 10 ∷ left) same; one = subst IsOneLine same one;
-        short = subst (λ l. length l ≤ 65536) same (read line lawful.1.short) })
+    h left (record {
+      parts = parts ∙ ap (λ l. l ++ 10 ∷ left) same;
+      one = subst IsOneLine same one;
+      short = subst (λ l. length l ≤ 65536) same (read line lawful.1.short);
+    })
 
 -- one line is read
 pub read-one : (from to : TextPlace) (before after : ℕ) (bytes line left : List ℕ) → IsFirstInText bytes line left →

@@ -61,7 +61,7 @@ step-le g p vs s e es graph metrics fits same mark known from after_subnet after
         let first = price-le g p (edge_at g e).price fits (metrics e no_edge known) (fits.priced e no_edge known) in
         let less = count_less vs s (Subnet 0) within (ap is_vertex_of_router (mark ∙ is)) refl in
         let both = one_more (price_at p (edge_at g e).price) (cost g p es) (count_by is_vertex_of_router (set vs s (Subnet 0))) (65535 * p.scale) first
-            after_router in
+        after_router in
         subst (λ (n : ℕ). cost g p (e ∷ es) ≤ n * (65535 * p.scale)) less
         (subst (λ (c : ℕ). c ≤ (count_by is_vertex_of_router (set vs s (Subnet 0)) + 1) * (65535 * p.scale))
         (sym longer) both)

@@ -221,7 +221,7 @@ pub part_last : (text : List ℕ) (room least : ℕ) →
     ((row m : ℕ) (rest : List ℕ) → IsCoprimeInRange (rows_from 0) row → IsCoprimeInRange multiplier_range m →
     split 32 text ≢ decimal row ∷ decimal m ∷ split 32 rest) →
     (r : Bool) → IsTrue r ↔ GoesOn (Then (IsNumberInRange (rows_from least)) (Alone (IsNumberInRange multiplier_range))) text room →
-        IsTrue r ↔ GoesOn (PartsWords least) text room
+    IsTrue r ↔ GoesOn (PartsWords least) text room
 part_last text room least none r h = (λ is. forth (h.0 is), λ on. h.1 (back on.0 on.1.0 on.1.1 on.1.2 on.1.3 on.2))
   where
     one : List (List ℕ) → Type 0

@@ -16,9 +16,16 @@ use Rattle.begun_lines.specs.Begun.{IsLineFront, BeginsNumber, BeginsName, Begin
 
 -- what begins a lawful line
 pub begins-from : (place next : TextPlace) (rest line : List ℕ) → Next place line next → length line ≤ 65536 → IsLineFront rest line → BeginsLawful place rest
-begins-from place next rest line is short front =
-    (front.0, (next, record { is = subst (λ l. Next place l next) (sym front.1) is;
-        short = has-room place (rest ++ front.0) (subst (λ l. length l ≤ 65536) (sym front.1) short) }))
+begins-from place next rest line is short front = (
+  front.0,
+  (
+    next,
+    record {
+      is = subst (λ l. Next place l next) (sym front.1) is;
+      short = has-room place (rest ++ front.0) (subst (λ l. length l ≤ 65536) (sym front.1) short);
+    },
+  ),
+)
 
 -- where one line alone is in the grammar
 pub wanted-begun : (place next : TextPlace) (rest line : List ℕ) → length line ≤ 65536 → Next place line next →

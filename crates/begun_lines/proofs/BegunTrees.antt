@@ -23,7 +23,7 @@ tree-begun rest front = (
   λ begun. elim begun [
     | inl number ↦
         let longer : IsLineFront rest ((front ++ decimal number.0) ++ 32 ∷ decimal 0) = front-longer rest (front ++ decimal number.0) (32 ∷ decimal 0) number.2
-            in
+        in
         (number.0, 0, number.1, omega arith, (longer.0, longer.1 ∙ append_assoc front (decimal number.0) (32 ∷ decimal 0)))
     | inr count ↦ behind count.0 count.1 count.2 count.3 count.4
   ],

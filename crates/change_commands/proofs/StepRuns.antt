@@ -63,7 +63,7 @@ priced_links d n same =
     let count : length ones ≡ n = length-replicate n one in
     subst (λ m. All (λ (edge : Edge). IsPriced m edge.price) (graph_by_links d).edges) count
     (costs_fit d ones (count ∙ same) (λ k x within. each k x within (λ c. 0 < c) (omega arith))
-        (λ k x within. each k x within (λ c. c ≤ 65535) (omega arith))).priced
+    (λ k x within. each k x within (λ c. c ≤ 65535) (omega arith))).priced
   where
     each : (k x : ℕ) → k < length {A = ℕ} (replicate n 1) → (P : ℕ → Type 0) → P 1 → P (get_or {A = ℕ} (replicate n 1) k x)
     each k x within P here =

@@ -88,7 +88,7 @@ pub line_taken : (d : Database) (present : List ℕ) (lines : List CostLine) (i 
 line_taken d present lines i costs seen line new_costs new_seen taken within at is =
     let l = link_of_line d line in
     let next : drop i lines ≡ line ∷ drop (i + 1) lines = at_drop_more (λ ls. ls) lines i line within ∙
-        ap (λ (x : CostLine). x ∷ drop (i + 1) lines) (sym at) in
+    ap (λ (x : CostLine). x ∷ drop (i + 1) lines) (sym at) in
     record {
       before = l ∷ taken.before;
       marked = subst (AreSeen (l ∷ taken.before)) (sym is.2) (marked_more taken.before seen l (omega (arith, is.3, taken.seen_count)) taken.marked);
@@ -109,7 +109,7 @@ pub line_refused : (d : Database) (present : List ℕ) (lines : List CostLine) (
     i < length lines → line ≡ get_or lines i line → line_fault d taken.before line ≡ Some fault → first_line_fault d lines ≡ Some fault
 line_refused d present lines i costs seen line fault taken within at is =
     let next : drop i lines ≡ line ∷ drop (i + 1) lines = at_drop_more (λ ls. ls) lines i line within ∙
-        ap (λ (x : CostLine). x ∷ drop (i + 1) lines) (sym at) in
+    ap (λ (x : CostLine). x ∷ drop (i + 1) lines) (sym at) in
     sym taken.fault ∙ ap (first_fault_after d taken.before) next
     ∙ ap (λ f. or_first f (first_fault_after d (link_of_line d line ∷ taken.before) (drop (i + 1) lines))) is
 

@@ -174,7 +174,7 @@ budget_short r held tested nodes are used_up another =
     differ i j less within = elim (split j within) [
       | inl before ↦
           λ same. are.once i j less before.0 (sym (get_or_append_left tested (another.marks ∷ []) [] i (let near = before.0 in omega (arith, less, near))) ∙
-              same ∙ before.1)
+          same ∙ before.1)
       | inr last ↦
           let earlier : i < length tested = let at = last.0 in omega (arith, less, at) in
           λ same. another.new (

@@ -52,7 +52,7 @@ unfolding kind_of_step
 last_variables r held k v is has =
     let all = last_test (list_all (rises_off_held r held) (variables_of_step r.moves k)) (list_all (falls_off_held r held) (variables_of_step r.moves k)) is in
     let parts = and_parts (not (rises r.moves v)) (not (lies_on_held r held v)) (list_all_has (falls_off_held r held) (variables_of_step r.moves k) v all has)
-        in
+    in
     (not-true (rises r.moves v) parts.0, not-true (lies_on_held r held v) parts.1)
 
 -- the kind by both tests

@@ -103,7 +103,7 @@ pub risen_more : (r : Rollout) (held : List ℕ) (marks : List Bool) (variables 
 risen_more r held marks variables i within known are rise left so_far =
     all_more (rises_off_held r held) variables i within so_far
     (and_from (rises r.moves (get_or variables i 0)) (not (lies_on_held r held (get_or variables i 0))) rise
-        (off_held r held marks (get_or variables i 0) are known left))
+    (off_held r held marks (get_or variables i 0) are known left))
 
 pub fallen_more : (r : Rollout) (held : List ℕ) (marks : List Bool) (variables : List ℕ) (i : ℕ) → i < length variables →
     get_or variables i 0 < length r.moves.present →
@@ -112,7 +112,7 @@ pub fallen_more : (r : Rollout) (held : List ℕ) (marks : List Bool) (variables
 fallen_more r held marks variables i within known are fall left so_far =
     all_more (falls_off_held r held) variables i within so_far
     (and_from (not (rises r.moves (get_or variables i 0))) (not (lies_on_held r held (get_or variables i 0)))
-        (not_from_false (rises r.moves (get_or variables i 0)) fall)
+    (not_from_false (rises r.moves (get_or variables i 0)) fall)
     (off_held r held marks (get_or variables i 0) are known left))
 
 -- a variable of another kind, and one that is on a held path
@@ -153,7 +153,7 @@ pub follows_test : (r : Rollout) (held : List ℕ) (marks : List Bool) (k : ℕ)
     (comes_between (kind_of_step r held k) && not (is_marked marks k)) ≡ true
 follows_test r held marks k follows =
     and_from (comes_between (kind_of_step r held k)) (not (is_marked marks k)) (ap comes_between follows.between)
-        (not_from_false (is_marked marks k) follows.left)
+    (not_from_false (is_marked marks k) follows.left)
 
 -- none of the first n, and one more
 pub none_follow_more : (r : Rollout) (held : List ℕ) (marks : List Bool) (n : ℕ) → ((k : ℕ) → k < n → MayFollow r held marks k → ⊥) →

@@ -126,9 +126,9 @@ no_order r held tested is begin all lacking order safe =
     let here = core_tested r held order tested is begin all safe (length order) (omega arith) in
     let at : get_or tested here.0 [] ≡ marks_of r (core r held order) =
     get_or_default tested here.0 [] (marks_of r (core r held (take (length order) order))) here.1 ∙ here.2 ∙
-        ap (λ (xs : List ℕ). marks_of r (core r held xs)) whole in
+    ap (λ (xs : List ℕ). marks_of r (core r held xs)) whole in
     let order_safe : IsSafe r held (is_one_of order) = subst (λ (xs : List ℕ). IsSafe r held (is_one_of xs)) whole
-        (safe.beginning.safe (length order) (omega arith)) in
+    (safe.beginning.safe (length order) (omega arith)) in
     let lacks = lacking here.0 here.1 (marks_safe r held (core r held order) (get_or tested here.0 []) at (core_safe r held order is order_safe)) in
     both_ways (is_one_of order lacks.0)
     (sym (ap (λ (kind : Kind). done_by kind (is_one_of order lacks.0)) lacks.1.between)

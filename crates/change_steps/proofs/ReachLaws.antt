@@ -178,10 +178,10 @@ pub dearer_over : (r : Rollout) (done : ℕ → Bool) (least : List (List ℕ)) 
 dearer_over r done least k e mine is are same less = λ other path has.
     let over = costs_over r.graph (at_costs (costs_in r.moves done)) (request_ends (request_at r.requests k)) e
     (least_from_to least (request_at r.requests k).path.start (edge_at r.graph e).from) (least_from_to least (edge_at r.graph e).to
-        (request_at r.requests k).end)
+    (request_at r.requests k).end)
     other is.graph path has
     (λ way is_way. let low = are (edge_at r.graph e).from (request_at r.requests k).path.start way is_way in let up = least_paid r done way in
-        omega (arith, low, up))
+    omega (arith, low, up))
     (λ way is_way. let low = are (request_at r.requests k).end (edge_at r.graph e).to way is_way in let up = least_paid r done way in omega (arith, low, up)) in
     omega (arith, over, less, same)
 
@@ -191,7 +191,7 @@ pub harmless_only : (r : Rollout) (f g : ℕ → Bool) (step k : ℕ) → IsRoll
 unfolding edges_of_step
 harmless_only r f g step k is more harmless only =
     only_unless r.graph (at_costs (costs_in r.moves f)) (at_costs (costs_in r.moves g)) (request_ends (request_at r.requests k))
-        (request_at r.requests k).path.edges only
+    (request_at r.requests k).path.edges only
     (λ e has. price_le (costs_in r.moves g) (costs_in r.moves f) (edge_at r.graph e).price
     (λ v price. costs_le r.moves g f v (elim (cases_Bool (has_price (variables_of_step r.moves step) (edge_at r.graph e).price)) [
       | inl in' ↦ between_costs r.moves g f v
@@ -220,7 +220,7 @@ harmless_only r f g step k is more harmless only =
     known : (e : ℕ) → Has (request_at r.requests k).path.edges e → e < length r.graph.edges
     known e has = all_has (λ i. i < length r.graph.edges) (request_at r.requests k).path.edges e
         (joined_known r.graph (request_ends (request_at r.requests k)).start (request_at r.requests k).path.edges (request_ends (request_at r.requests k)).end
-            only.path.simple.joins) has
+        only.path.simple.joins) has
 
     at : (e : ℕ) → e < length r.graph.edges → has_price (variables_of_step r.moves step) (edge_at r.graph e).price ≡ true → IsHarmless r g k e
     at e within in' = kept_all (IsHarmless r g k) (λ x. has_price (variables_of_step r.moves step) (edge_at r.graph x).price) 0 (length r.graph.edges) harmless

@@ -234,7 +234,7 @@ greatest_stays p tested marks done is less = record {
 -- what was finished stays so, and the new state isn't safe or is on the way
 finished_push : (p : HeldRollout) (tested : List (List Bool)) (new : List Bool) (order : List ℕ) →
     ((marks : List Bool) → Contains tested marks → IsSafe p.rollout p.held (is_marked marks) →
-        IsOnWay p order marks ⊎ IsExplored p tested marks (step_count p.rollout)) →
+    IsOnWay p order marks ⊎ IsExplored p tested marks (step_count p.rollout)) →
     (IsSafe p.rollout p.held (is_marked new) → IsOnWay p order new) → (marks : List Bool) → Contains (tested ++ new ∷ []) marks →
     IsSafe p.rollout p.held (is_marked marks) → IsOnWay p order marks ⊎ IsExplored p (tested ++ new ∷ []) marks (step_count p.rollout)
 finished_push p tested new order finished here marks has safe = elim (Contains-push_cases tested new marks has) [
@@ -393,7 +393,7 @@ search_backs p s order step is same end = search_moves p back (step + 1) whole
     (explored_more p s.tested (way_state p order) step
     (subst (λ (xs : List ℕ). IsExplored p s.tested (way_state p xs) step) (take_all (length order) order (omega arith))
     (subst (λ (n : ℕ). IsExplored p s.tested (way_state p (take (length order) order)) n) (get_or_at order step [] 0 (length order) refl)
-        (explored_at (length order) (omega arith))))
+    (explored_at (length order) (omega arith))))
     (subst (λ (m : List Bool). Contains s.tested m) (ap (way_state p) same ∙ sym (way_push p order step known)) (top_tested p s is)))
   where
     back : Position

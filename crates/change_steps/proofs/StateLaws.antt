@@ -130,7 +130,7 @@ undo_costs r marks values old present variables step is known count old_is varia
           put v ∙ cond-false (is_one_of variables v) (get_or present v 0) (get_or old v 0) lacks ∙ ap (λ (ws : List ℕ). get_or ws v 0) old_is
           ∙ cost_at r.moves (is_marked marks) v near
           ∙ alike r.moves (is_marked marks) less v (same v (λ has. both_ways (is_one_of variables v) lacks
-              (has_one_of variables v (subst (λ (xs : List ℕ). Has xs v) (sym variables_are) has))))
+          (has_one_of variables v (subst (λ (xs : List ℕ). Has xs v) (sym variables_are) has))))
           ∙ sym (cost_at r.moves less v near)
     ])
   where

@@ -40,7 +40,7 @@ has_state keys marks = (
 
 pub state_added : (keys new : List (Vec Bool Global)) (v : Vec Bool Global) (marks : List Bool) → v.items ≡ marks → (Contains (map items_of keys) marks → ⊥) →
     new ≡ cond (list_any (λ (w : Vec Bool Global). pointwise beq v.items w.items) keys) keys (keys ++ v ∷ []) →
-        map items_of new ≡ map items_of keys ++ marks ∷ []
+    map items_of new ≡ map items_of keys ++ marks ∷ []
 state_added keys new v marks same lacks is =
     ap (map items_of) (is ∙ cond-false (list_any (λ (w : Vec Bool Global). pointwise beq v.items w.items) keys) keys (keys ++ v ∷ [])
     (false_from_ne_true (list_any (λ (w : Vec Bool Global). pointwise beq v.items w.items) keys)

@@ -182,7 +182,7 @@ walk_backs p w v step is end order state done next tested greatest room = record
   here = done ∙ ap (λ (m : List Bool). set m step false) is.here ∙ way_pop p w v.order.items step is order;
   search = subst (IsSearch p)
       (sym (position_same (position_of v) (record { order = v.order.items; next = step + 1; tested = w.tested; greatest = w.greatest.items }) refl next tested
-          greatest))
+      greatest))
       (search_backs p (position_of w) v.order.items step is.search order end);
 }
 

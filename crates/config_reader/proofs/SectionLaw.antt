@@ -142,7 +142,7 @@ cost_said_there n from to =
 -- a cost line behind the head of its interface sets the cost
 pub after_cost : (file_name : List ℕ) (file : List (List ℕ)) (name : List ℕ) (n : ℕ) → IsOneWord name → 1 ≤ n → n ≤ 65535 →
     (router_of file_name ((file ++ name_line name ∷ []) ++ section_cost_line n ∷ []) ≡
-        with_costs ((name, n) ∷ []) (router_of file_name (file ++ name_line name ∷ [])))
+    with_costs ((name, n) ∷ []) (router_of file_name (file ++ name_line name ∷ [])))
     × (first_heads ((file ++ name_line name ∷ []) ++ section_cost_line n ∷ []) ≡ first_heads (file ++ name_line name ∷ []))
 after_cost file_name file name n one from to =
     (router_of-cost file_name (file ++ name_line name ∷ []) (section_cost_line n) name n (block_behind file name one) cost refl heads, heads)

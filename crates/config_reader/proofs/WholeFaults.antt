@@ -81,7 +81,7 @@ module _ (all : List Said) (heads : List (List ℕ × ℕ)) (unheaded : (name : 
       cases None e =
           let none : about all name ≡ [] = unheaded name (headed_names name heads ∙ no_place (same_bytes name) (head_names heads) e) in
           sym (and_right (is_given_area all name) (differs p (interface_address all name))
-              (ap (λ own. differs p (first_of (filter_map address_said own))) none))
+          (ap (λ own. differs p (first_of (filter_map address_said own))) none))
       cases (Some i) e =
           let found = position-Some (same_bytes name) (head_names heads) i [] e in
           let within : i < length heads = omega (arith, found.0, length-map heads (λ (h : List ℕ × ℕ). h.0)) in

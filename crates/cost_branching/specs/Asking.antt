@@ -62,10 +62,10 @@ pub record AreAskedAmong (point : Point) (requests : ℕ) (old : KnownRows) (old
 -- All requests were asked, where the pool may hold other forms besides those of the rows: it got the forms of the rows
 -- that came, and no other. The rows' own forms tell whether each path leads.
 pub record AreAllRequestsAsked (point : Point) (old : KnownRows) (old_forms : List Form) (new : KnownRows) (new_forms : List Form) (asked : Asked) : Type 0
-    where
-  pub problem : new.problem ≡ old.problem
-  pub are_rows : ArePoolRows old.problem new.rows
-  pub more : List Form
-  pub rows : forms_of_rows old.problem new.rows ≡ forms_of_rows old.problem old.rows ++ more
-  pub forms : new_forms ≡ old_forms ++ more
-  pub answer : IsSourceAnswer (LeadsEach old.problem) point (forms_of_rows old.problem old.rows) (forms_of_rows old.problem new.rows) asked
+  where
+    pub problem : new.problem ≡ old.problem
+    pub are_rows : ArePoolRows old.problem new.rows
+    pub more : List Form
+    pub rows : forms_of_rows old.problem new.rows ≡ forms_of_rows old.problem old.rows ++ more
+    pub forms : new_forms ≡ old_forms ++ more
+    pub answer : IsSourceAnswer (LeadsEach old.problem) point (forms_of_rows old.problem old.rows) (forms_of_rows old.problem new.rows) asked

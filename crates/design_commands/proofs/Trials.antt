@@ -162,7 +162,7 @@ end_tried blocks start texts names came (Ok report) result are read same =
 end_tried blocks start texts names came (Err (stops.Refused number file line)) result are read r =
     let fault = refusal_in number file line in
     let end : end_of_reading texts (outcome AsRequested names) ≡ Faulty fault = ends_on texts (outcome AsRequested names) came (Faulty fault) read are.told
-        are.sure in
+    are.sure in
     IfOk-weaker result (Reports status.InputRefused (refused_line fault))
     (λ made. MayTryEnd blocks start (end_of_reading texts (outcome AsRequested names)) made.status (bytes_in made.text))
     (λ report is. subst (λ (e : End Input). MayTryEnd blocks start e report.status (bytes_in report.text)) (sym end)

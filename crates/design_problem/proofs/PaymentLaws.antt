@@ -86,14 +86,14 @@ paths_balance g rival wanted ps moved v =
     sum_by-IsPermutation (λ p. cond (p.by_rival && (p.var == v)) 1 0) both ps moved
     ∙ sum_by-append (λ p. cond (p.by_rival && (p.var == v)) 1 0) (payments_of g true rival) (payments_of g false wanted)
     ∙ ap (λ n. times_paid (payments_of g true rival) v + n) (counted_of g (λ p. p.by_rival && (p.var == v)) false (λ q. false) (none_paid v) wanted ∙
-        none_counted wanted)
+    none_counted wanted)
     ∙ add-zero (times_paid (payments_of g true rival) v)
     ∙ counted_of g (λ p. p.by_rival && (p.var == v)) true (is_var v) (own_paid v) rival in
     let saved : times_saved ps v ≡ uses g wanted v =
     sum_by-IsPermutation (λ p. cond (not p.by_rival && (p.var == v)) 1 0) both ps moved
     ∙ sum_by-append (λ p. cond (not p.by_rival && (p.var == v)) 1 0) (payments_of g true rival) (payments_of g false wanted)
     ∙ ap (λ n. n + times_saved (payments_of g false wanted) v) (counted_of g (λ p. not p.by_rival && (p.var == v)) true (λ q. false) (none_saved v) rival ∙
-        none_counted rival)
+    none_counted rival)
     ∙ zero-add (times_saved (payments_of g false wanted) v)
     ∙ counted_of g (λ p. not p.by_rival && (p.var == v)) false (is_var v) (own_saved v) wanted in
     ap (λ n. pos n -ℤ pos (times_saved ps v)) paid ∙ ap (λ n. pos (uses g rival v) -ℤ pos n) saved

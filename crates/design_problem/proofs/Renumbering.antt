@@ -162,7 +162,7 @@ renumbered_step number old new box basis lows name left right keeps are step = g
         IsTableStep box new (map (renumbered_member number) basis) lows Lcm
         (whole (pos (lcm_of (take k (denominators ms))))) (whole (pos d)) in
         subst P (same_multipliers number basis r es) (multiple (renumbered_member number r) es k d (known r is) (has r es is entries) (refuting es is_refuting))
-            gets
+        gets
     go name left right (multiplier_product r es k q is entries is_refuting gets) =
         let P : List Fraction → Type 0 = λ ms. slice_get ms k ≡ Some q →
         IsTableStep box new (map (renumbered_member number) basis) lows Mul q (whole (pos (lcm_of (denominators ms)))) in
@@ -178,7 +178,7 @@ renumbered_step number old new box basis lows name left right keeps are step = g
     go name left right (multiplier_scale r es is entries is_refuting) =
         let P : List Fraction → Type 0 = λ ms. IsTableStep box new (map (renumbered_member number) basis) lows Scale (sum_of (made_whole ms)) two_to_27 in
         subst P (same_multipliers number basis r es) (multiplier_scale (renumbered_member number r) es (known r is) (has r es is entries)
-            (refuting es is_refuting))
+        (refuting es is_refuting))
 
 -- a step that is too wide stays one
 pub renumbered_too_wide : (number : ℕ → ℕ) (old new : List Form) (top : ℕ) (box : CostBox) (wide : WideAt) →

@@ -91,7 +91,7 @@ pub data IsTableStep (box : CostBox) (rows : List Form) (basis : List Member) (l
   row_sum : (row place k : ℕ) (next : Fraction) → row < length rows → place ≤ length basis →
       slice_get (terms (form_at rows row).coefficients lows place) k ≡ Some next →
       IsTableStep box rows basis lows Add (fold plus (start_of_sum box (form_at rows row) place) (take k (terms (form_at rows row).coefficients lows place)))
-          next
+      next
   pivot_quotient : (r : Member) (es : List Fraction) (j place : ℕ) → IsFormOf box rows r →
       HasEntries box rows basis r es → IsPivot basis es j → place ≤ length basis →
       IsTableStep box rows basis lows Div (entry es place) (entry es j)

@@ -121,7 +121,7 @@ one_failed : (name file : List ℕ) (names : List (List ℕ)) → name ≡ file 
 one_failed name file names same =
     let here : bytes_eq name file ≡ true = (bytes_eq-Decides name file).1 same in
     let counted : count_of_name (name ∷ names) file ≡ mark (bytes_eq name file) + count_of_name names file = sum_by-cons
-        (λ (x : List ℕ). mark (bytes_eq x file)) name names in
+    (λ (x : List ℕ). mark (bytes_eq x file)) name names in
     let one : mark (bytes_eq name file) ≡ mark true = ap mark here in
     omega (arith, counted, one)
 
@@ -134,7 +134,7 @@ failed_here : {A : Type 0} (taken_name name : List ℕ) (next : List ℕ → Rea
     OnCame came (λ bytes. EndsAs (next bytes) more (Failed file))
     ((more ≡ []) × (failed A file ≡ Faulty (too_long name))) ((more ≡ []) × (failed A file ≡ Failed name)) →
     ((bytes : List ℕ) → EndsAs (next bytes) more (Failed file) → 0 < count_of_name (failures more) file) →
-        0 < count_of_name (failure taken_name came ++ failures more) file
+    0 < count_of_name (failure taken_name came ++ failures more) file
 failed_here taken_name name next more file (Ok bytes) is then rest = rest bytes then
 failed_here {A = A} taken_name name next more file (Err stop.TooLong) is then rest = absurd (faulty_failed {A = A} (too_long name) file (sym then.1))
 failed_here {A = A} taken_name name next more file (Err stop.Failed) is then rest =
@@ -191,7 +191,7 @@ pub sure_shelf : (words : List (List ℕ)) (Asked : Option JobRead → List Take
     RunMeets words Asked gave held (λ name. 0) (λ name. 0) handed got_before got_now count_before count_now end → end ≡ status.ReadFault → ⊥
 sure_shelf words Asked gave held handed got_before got_now count_before count_now end meets is =
     let whole = subst (λ (s : Status). Writes (MayWriteAsking (MayWrite (job_of words) meets.came) (Asked (job_of words) meets.came)) handed got_before got_now
-        count_before count_now s) is meets.written in
+    count_before count_now s) is meets.written in
     no_read_fault (job_of words) meets.came whole.bytes meets.counted whole.allowed.0
 
 -- nor with one of a sink
@@ -200,7 +200,7 @@ pub sure_sink : (words : List (List ℕ)) (Asked : Option JobRead → List Taken
     RunMeets words Asked gave held before now handed got_before got_now 0 0 end → end ≡ status.WriteFault → ⊥
 sure_sink words Asked gave held before now handed got_before got_now end meets is =
     let part = subst (λ (s : Status). Writes (MayWriteAsking (MayWrite (job_of words) meets.came) (Asked (job_of words) meets.came)) handed got_before got_now 0
-        0 s) is meets.written in
+    0 s) is meets.written in
     never_rose part.cause
   where
     never_rose : Rose 0 0 → ⊥

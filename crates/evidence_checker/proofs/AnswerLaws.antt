@@ -191,8 +191,10 @@ lines_fail forms (box ∷ boxes) place (entry ∷ entries) f sound closed failed
 
 proof_fails : (p : DesignProblem) (rows : List Row) (proof : Option CapTree) → ProofHolds p rows proof → NoneOf (proof_tests p rows proof)
 proof_fails p rows None holds = tt
-proof_fails p rows (Some proof) holds = (λ f failed. lines_fail (forms_of_rows p rows) (capped (box_of p) proof.cap ∷ []) 0 proof.tree f holds.0 holds.1 failed,
-    tt)
+proof_fails p rows (Some proof) holds = (
+  λ f failed. lines_fail (forms_of_rows p rows) (capped (box_of p) proof.cap ∷ []) 0 proof.tree f holds.0 holds.1 failed,
+  tt,
+)
 
 -- the tests before those of the rows
 abbrev pub EarlyTests : DesignProblem → AnswerParts → List (FailedTest → Type 0)

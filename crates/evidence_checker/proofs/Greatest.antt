@@ -23,7 +23,7 @@ pub read_is_small : (cs : List ℤ) (i : ℕ) (sum : ℤ) → i < length cs → 
     nat_abs (to_z w128 (of_z w128 (get_or cs i (pos 0)))) * 65535 < 2 ^ 127
 read_is_small cs i sum within size =
     subst (λ (z : ℤ). nat_abs z * 65535 < 2 ^ 127) (sym (to_z-of_z w128 (get_or cs i (pos 0)) (one_fits cs i sum within size)))
-        (one_is_small cs i sum within size)
+    (one_is_small cs i sum within size)
 
 -- a sum fits with the next term
 pub more_fits : (cs : List ℤ) (i : ℕ) (sum term : ℤ) → i < length cs → nat_abs sum + 65535 * sum_by nat_abs (drop i cs) < 2 ^ 127 →

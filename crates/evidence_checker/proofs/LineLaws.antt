@@ -31,12 +31,18 @@ true_false e = cc
 -- a sound line that isn't open fails no test
 pub sound_fails_none : (forms : List Form) (box : CostBox) (entry : Entry) → SoundAt forms box entry →
     is_undone entry ≡ false → NoneOf (line_tests forms box entry)
-sound_fails_none forms box (Tighten var side value row) sound closed = (λ n failed. failed.1,
-    (λ n failed. failed.1, (λ n failed. failed.1 sound, (λ n failed. failed.1, tt))))
-sound_fails_none forms box (Split var value) sound closed = (λ n failed. failed.1,
-    (λ n failed. failed.1, (λ n failed. failed.1 sound, (λ n failed. failed.1, tt))))
-sound_fails_none forms box (Halve var value wide) sound closed = (λ n failed. failed.1,
-    (λ n failed. failed.1, (λ n failed. failed.1 sound, (λ n failed. failed.1, tt))))
+sound_fails_none forms box (Tighten var side value row) sound closed = (
+  λ n failed. failed.1,
+  (λ n failed. failed.1, (λ n failed. failed.1 sound, (λ n failed. failed.1, tt))),
+)
+sound_fails_none forms box (Split var value) sound closed = (
+  λ n failed. failed.1,
+  (λ n failed. failed.1, (λ n failed. failed.1 sound, (λ n failed. failed.1, tt))),
+)
+sound_fails_none forms box (Halve var value wide) sound closed = (
+  λ n failed. failed.1,
+  (λ n failed. failed.1, (λ n failed. failed.1 sound, (λ n failed. failed.1, tt))),
+)
 sound_fails_none forms box (Refute parts) sound closed = (
   λ n failed. absurd (omega (arith, failed.1, sound.sum)),
   (

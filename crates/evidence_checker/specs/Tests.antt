@@ -81,7 +81,7 @@ HasWrongGreatest k printed w = (printed ≡ k) × (greatest_cost w ≡ k) → �
 abbrev pub IsNotOnly : DesignProblem → List ℕ → ℕ → Type 0
 IsNotOnly p w request =
     (request < length p.requests) × (IsOnlyCheapest p.graph (at_costs w) (request_ends (request_at p.requests request))
-        (request_at p.requests request).path.edges → ⊥)
+    (request_at p.requests request).path.edges → ⊥)
 
 -- 52: the floor is no variable whose lower bound is k, or says that there is no variable where there is one
 abbrev pub IsFalseFloor : DesignProblem → ℕ → Floor → Type 0

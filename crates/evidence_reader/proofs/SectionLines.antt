@@ -95,7 +95,7 @@ pub interface_section : (of : Option OtherText) (before : Option (List ℕ)) (na
 interface_section of before name interface line words {b0} {b1} {b2} {bytes} {middle} {left} again is same named first second =
     subst (λ r. IsRead (AtSections of before) b0 bytes (router_lines before r ++ words_lines words) (AtSections of (Some r)) b2 left) (sym same)
     (subst (λ front. IsRead (AtSections of before) b0 bytes (front ++ words_lines words) (AtSections of (Some name)) b2 left)
-        (sym (same_router before name again))
+    (sym (same_router before name again))
     (words_read of name interface line words is named first second))
 
 -- a line of one more cost is in the grammar among the sections

@@ -48,7 +48,7 @@ pub level_ordered : (t : Table) (line column other : ℕ) → line < length t.li
 level_ordered t line column other line_in pivot other_pivot level w a at_column =
     let second = entry_number t w line other line_in other_pivot in
     subst (λ z. LeadsNoNegative (turned_column a (numbers_in_column (suc other) w.unboxed.lows) z (numbers_in_column (suc column) w.unboxed.lows)))
-        (sym second.1)
+    (sym second.1)
     (stays_first t w line column other a second.0 (compared t w line column other a second.0 line_in pivot other_pivot at_column second.1) level)
 
 -- the first difference tells which one is
@@ -61,7 +61,7 @@ pub greater_ordered : (t : Table) (line column other v : ℕ) → line < length 
 greater_ordered t line column other v line_in pivot other_pivot v_in level greater w a at_column =
     let second = entry_number t w line other line_in other_pivot in
     subst (λ z. LeadsNoNegative (turned_column a (numbers_in_column (suc other) w.unboxed.lows) z (numbers_in_column (suc column) w.unboxed.lows)))
-        (sym second.1)
+    (sym second.1)
     (less_first t w line column other a second.0 v (compared t w line column other a second.0 line_in pivot other_pivot at_column second.1) v_in level greater)
 
 pub less_ordered : (t : Table) (line column other v : ℕ) → line < length t.lines.items →
@@ -73,7 +73,7 @@ pub less_ordered : (t : Table) (line column other v : ℕ) → line < length t.l
 less_ordered t line column other v line_in pivot other_pivot v_in level less w b at_other =
     let first = entry_number t w line column line_in pivot in
     subst (λ z. LeadsNoNegative (turned_column b (numbers_in_column (suc column) w.unboxed.lows) z (numbers_in_column (suc other) w.unboxed.lows)))
-        (sym first.1)
+    (sym first.1)
     (other_first t w line column other first.0 b v (compared t w line column other first.0 b line_in pivot other_pivot first.1 at_other) v_in level less)
 
 -- the steps of a comparison are steps of the basis

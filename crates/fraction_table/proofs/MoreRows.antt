@@ -120,6 +120,6 @@ whole_more top costs rows basis table f line w fits numbers stand =
             (table ++ line ∷ [])) (sym (members_more costs (length rows)) ∙ ap (members_of_box costs) counted)
             (zip_push (IsTableLine top w.unboxed.common costs more w.unboxed.lows) (members_of_box costs (length rows)) table (Row (length rows)) line
             (lines_kept top w.unboxed.common costs rows f w.unboxed.lows (members_of_box costs (length rows)) table (members_are costs rows) w.unboxed.lines)
-                last);
+            last);
       };
     }

@@ -226,7 +226,7 @@ pub other_kept : (n D : ℕ) (low next : List ℕ) (lows news : List (List ℤ))
     Stand D line (numbers_of_form n D low lows f) → Stand D line (numbers_of_form n D next news f)
 other_kept n D low next lows news bs f line fall m stand =
     subst (λ (ms : List ℤ). Stand D line ms) (map-numbers_from-agree (number_of_form D low lows f) (number_of_form D next news f) 0 (suc n)
-        (λ k from k_in. each k)) stand
+    (λ k from k_in. each k)) stand
   where
     each : (k : ℕ) → number_of_form D low lows f k ≡ number_of_form D next news f k
     each zero = sym (m.constants f ∙ ring (number_of_form D low lows f 0 ∷ fall ∷ []) (var 0 ⊕ num (pos 0) ⊗ var 1) (var 0) refl)

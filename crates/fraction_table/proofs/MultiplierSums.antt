@@ -87,18 +87,18 @@ row_column D L row rows w (pos (suc k)) q m rest r none made below =
     subst (λ (z : ℤ). ((pos D *ℤ z) +ℤ (pos L *ℤ ((m *ℤ value_for_costs (form_at rows row) w) +ℤ r))) ≤ℤ pos 0)
     (sym (value-weighted rows (whole_multiplier L (row, negated q)) rest w))
     (row_more D L (pos (whole_multiplier L (row, negated q)).1) (value_for_costs (weighted rows rest) w) m (value_for_costs (form_at rows row) w) r made.0
-        below)
+    below)
 row_column D L row rows w (negsuc k) q m rest r none made below =
     subst (λ (z : ℤ). ((pos D *ℤ z) +ℤ (pos L *ℤ ((m *ℤ value_for_costs (form_at rows row) w) +ℤ r))) ≤ℤ pos 0)
     (sym (value-weighted rows (whole_multiplier L (row, negated q)) rest w))
     (row_more D L (pos (whole_multiplier L (row, negated q)).1) (value_for_costs (weighted rows rest) w) m (value_for_costs (form_at rows row) w) r made.0
-        below)
+    below)
 
 -- The rows' sum, D-fold, and that of all members, times the multiple, are together at most 0.
 pub columns_sum : (D L n : ℕ) (rows : List Form) (w : List ℕ) (members : List Member) (qs : List Fraction)
     (ms : List ℤ) → AllHigh n w members → AreMade D L members qs ms →
     ((pos D *ℤ value_for_costs (weighted rows (map (whole_multiplier L) (columns_numbered members qs))) w) +ℤ (pos L *ℤ member_sum n rows w ms members)) ≤ℤ pos
-        0
+    0
 columns_sum D L n rows w [] qs [] high made = omega (arith, ints)
 columns_sum D L n rows w [] qs (m ∷ ms) high made = omega (arith, ints)
 columns_sum D L n rows w (member ∷ members) [] ms high made = absurd made

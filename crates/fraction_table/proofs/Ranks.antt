@@ -250,7 +250,7 @@ rank_rises t w line column news line_in pivot least news_are rows =
     (λ same. omega (arith, same)) (omega (arith, rs_long)) in
     let below = negative_size (number_at rs 0) (constant_negative t w line line_in pivot.below) in
     let in_columns : length (numbers_in_column 0 w.unboxed.lows) ≡
-        length (numbers_in_column (suc column) w.unboxed.lows) = length-numbers_in 0 w.unboxed.lows (suc column) in
+    length (numbers_in_column (suc column) w.unboxed.lows) = length-numbers_in 0 w.unboxed.lows (suc column) in
     let rises = constants_rise w.unboxed.common a (numbers_in_column 0 w.unboxed.lows) below.0 (number_at rs 0)
     (numbers_in_column (suc column) w.unboxed.lows) w.unboxed.positive below.1 below.2 in_columns
     (w.unboxed.lead column p.j_in) in

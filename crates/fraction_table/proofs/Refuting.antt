@@ -254,7 +254,7 @@ sum_negative t line s w inside =
     let made = are_made t.top D L t.basis.items (drop 1 es) ms (whole_is.unboxed.count ∙ sym (rest_long es n long))
     whole_is.unboxed.positive L_positive (rest_numbers t.top es l.numbers)
     (rest_low n es long (λ k k_from k_in. s.refuting.none_above k k_from (omega (arith, whole_is.unboxed.count, k_in)))) (rest_stand D es m ms l.stand) divides
-        in
+    in
     parts_negative D L n t.rows.items w r t.basis.items (drop 1 es) m ms L_positive (constant_low t line s)
     (bound_high t.costs t.rows.items w r inside (member_is t whole_is line s.line_in))
     (all_high t.costs t.rows.items w t.basis.items inside whole_is.unboxed.members)

@@ -56,7 +56,7 @@ pub record RaisesWide (top : ℕ) (lines : List (List Fraction)) (column : ℕ) 
 abbrev pub ShiftsWide : ℕ → Option ℕ → ℕ → Fraction → List (List Fraction) → Wide → Type 0
 ShiftsWide top None own fall lines wide =
     (wide ≡ record { step = Sub; left = entry (slice_index_or lines own []) 0; right = fall }) ×
-        Any (λ n. top < n) (numbers_of_step wide.step wide.left wide.right)
+    Any (λ n. top < n) (numbers_of_step wide.step wide.left wide.right)
 ShiftsWide top (Some column) own fall lines wide = RaisesWide top lines column fall wide
 
 -- the basis with another member in the column, if there is one

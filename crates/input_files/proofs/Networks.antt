@@ -62,7 +62,7 @@ network_is First Later Both view names network request_file routers d p more bas
         solved.ends) in
         let built = moved asked files same are in
         let whole = said_unless (topology_refused_at names) (database_of asked.area (routers_of files)) built.said
-            (topology_fault asked.area (routers_of files)) [] built.ends in
+        (topology_fault asked.area (routers_of files)) [] built.ends in
         record {
           said = x;
           ends = ends_then (problem_read view names asked read)

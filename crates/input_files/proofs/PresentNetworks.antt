@@ -35,7 +35,7 @@ pub above_at_present : (names : InputFiles) (d : Input) → IsAsked d.asked → 
     problem_read AtPresent names d.asked d.database ≡ Ready d.problem → All (λ cost. 0 < cost) (map (present_cost d.asked) d.database.links)
 above_at_present names d asked base is =
     let none = none_first (line_faults d.database d.asked.items ++ cost_faults (present_asked d.asked) d.database 0 d.database.links) (at_present names d is).0
-        in
+    in
     present_above d.asked d.database asked base
     (append-none (line_faults d.database d.asked.items) (cost_faults (present_asked d.asked) d.database 0 d.database.links) none).1
 

@@ -125,7 +125,7 @@ module _ (turn : Turn) (column : ℕ) (entering line : Line) where
       subst (IsPartTo turn column entering line 0) (sym is) record {
         positive = gcd_high above below
             (product_positive (nat_abs line.denominator) (nat_abs turn.multiplier) (size_positive line.denominator d_high)
-                (size_positive turn.multiplier m_high));
+            (size_positive turn.multiplier m_high));
         denominator = g.1;
         constant = g.0;
         numbers = λ c c_in. absurd (omega (arith, c_in));

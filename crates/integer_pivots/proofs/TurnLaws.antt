@@ -266,9 +266,9 @@ module _ (t : Turn) (n e m' n' f' e' : ℤ) (m_small : nat_abs t.multiplier ≤ 
   wide_is =
       ap₂ (λ (x y : ℤ). x -ℤ y)
       (wide_product m' n' t.multiplier n (m_is ∙ read_number t.multiplier (omega (arith, m_small))) (n_is ∙ to_z-of_z w64 n n_fits) m_small
-          (fitting_size n n_fits.sfits))
+      (fitting_size n n_fits.sfits))
       (wide_product f' e' t.factor e (f_is ∙ read_number t.factor (omega (arith, f_small))) (e_is ∙ to_z-of_z w64 e e_fits) f_small
-          (fitting_size e e_fits.sfits))
+      (fitting_size e e_fits.sfits))
 
   wide_small : nat_abs (turned_number t n e) < 2 ^ 127
   wide_small =

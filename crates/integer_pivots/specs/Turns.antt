@@ -47,7 +47,7 @@ pub record IsTurnedLine (turn : Turn) (column : ℕ) (entering old new : Line) :
   pub constant : (new.constant *ℤ (old.denominator *ℤ turn.multiplier)) ≡ (turned_number turn old.constant entering.constant *ℤ new.denominator)
   pub others : (c : ℕ) → c < length old.numbers → c ≢ column →
       (number_at new.numbers c *ℤ (old.denominator *ℤ turn.multiplier)) ≡
-          (turned_number turn (number_at old.numbers c) (number_at entering.numbers c) *ℤ new.denominator)
+      (turned_number turn (number_at old.numbers c) (number_at entering.numbers c) *ℤ new.denominator)
   pub own : (number_at new.numbers column *ℤ (old.denominator *ℤ turn.multiplier)) ≡ ((turn.factor *ℤ entering.denominator) *ℤ new.denominator)
 
 -- A line of which the constant and the denominator have turned and the numbers are to; the turn makes 0 of the

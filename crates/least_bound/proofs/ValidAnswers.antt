@@ -264,8 +264,11 @@ optimal_answered p top nodes pool sheet w costs floor (Some t) (Some u) None is 
       holds = record {
         rows = sheet_rows p pool sheet is;
         finished = refl;
-        claim = (gives p w costs fit printed, subst (λ (f : Floor). ShowsLeastGreatest p sheet.rows costs.greatest f (Some u)) (sym shows)
-            (u.cap, next, proves));
+        claim = (
+          gives p w costs fit printed,
+          subst (λ (f : Floor). ShowsLeastGreatest p sheet.rows costs.greatest f (Some u)) (sym shows)
+              (u.cap, next, proves),
+        );
       };
       proof = tree_printed p top nodes pool sheet t u is proof_is holds.2.tree holds.2.few;
       sheet = whole;

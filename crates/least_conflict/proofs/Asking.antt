@@ -80,7 +80,7 @@ pub asked_by : {A : Type 0} (IsItself : A → A → Type 0) (state : A → List 
     IsAskedOfRequests IsItself state would left after p top nodes (record { set = set; pool = pool; found = known }) old new
 asked_by IsItself state would left after p set slice top nodes pool found known old new same is asked =
     let Asked : List ℕ → Found → Type 0 = λ ms f. IsAskedOfRequests IsItself state would left after p top nodes (record { set = ms; pool = pool; found = f })
-        old new in
+    old new in
     let of_slice : Asked slice known = subst (λ (f : Found). Asked slice f) is asked in
     subst (λ (ms : List ℕ). Asked ms known) same of_slice
 
@@ -173,7 +173,7 @@ pub unused_before : (old new : Shrunk) → length old.without.items < length old
 unused_before old new within none rest rows_are same = λ more c order.
     unused old.members old.rows old.without.items more c within none
     (in_order_as new.members (remove old.members (length old.without.items)) new.rows old.rows new.without.items old.without.items more c rest rows_are same
-        order)
+    order)
 
 -- costs were found without it, so it stays
 pub needed_before : (old new : Shrunk) (pool : Pooled) (w : List ℕ) → length old.without.items < length old.members →

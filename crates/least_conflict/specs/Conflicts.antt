@@ -54,12 +54,12 @@ pub record IsTreeOfRequests (p : DesignProblem) (top nodes : ℕ) (members : Lis
 
 -- a least conflict, with the closed tree that refutes it and, for each of its members, costs that are fit without it
 pub record IsLeastConflictShown (p : DesignProblem) (top nodes : ℕ) (members : List ℕ) (rows : List Row) (tree : List Entry) (without : List (List ℕ)) : Type 0
-    where
-  pub least : IsLeastConflict p members
-  pub told : IsTreeOfRequests p top nodes members rows tree
-  pub closed : IsClosed tree
-  pub counted : length without ≡ length members
-  pub fits : (k : ℕ) → k < length members → IsFit (restricted p (remove members k)) (slice_index_or without k [])
+  where
+    pub least : IsLeastConflict p members
+    pub told : IsTreeOfRequests p top nodes members rows tree
+    pub closed : IsClosed tree
+    pub counted : length without ≡ length members
+    pub fits : (k : ℕ) → k < length members → IsFit (restricted p (remove members k)) (slice_index_or without k [])
 
 -- a conflict without one of its members
 pub record IsConflictLessOne (p : DesignProblem) (members : List ℕ) : Type 0 where

@@ -77,7 +77,7 @@ unknown_step ends links i d line olds news whole within is line_is before =
     ∙ append_assoc olds (option_to_list line) rest
     ∙ ap (λ (l : Option Difference). olds ++ (option_to_list l ++ rest)) line_is
     ∙ ap (λ (seen : List LiveLink). olds ++ (option_to_list (unknown_line ends (take i links) (get_or links i d)) ++
-        unknown_lines ends seen (drop (i + 1) links)))
+    unknown_lines ends seen (drop (i + 1) links)))
     (take_more links i d within)
     ∙ sym (ap (λ (xs : List Difference). olds ++ xs) (at_drop_more (unknown_lines ends (take i links)) links i d within))
     ∙ before

@@ -137,9 +137,9 @@ leads_stay f s (Some link) = refl
 members_stay : (f : Linked → Option ℕ) (d : Database) (s : ℕ) → links_into_subnet (with_costs f d) s ≡ links_into_subnet d s
 members_stay f d s =
     ap (λ n. filter (λ l. link_leads_to s (slice_get (map (λ x. costed_by (f x) x) d.links) l)) (numbers_from 0 n))
-        (length-map d.links (λ x. costed_by (f x) x))
+    (length-map d.links (λ x. costed_by (f x) x))
     ∙ filter-numbers_from-agree (λ l. link_leads_to s (slice_get (map (λ x. costed_by (f x) x) d.links) l)) (λ l. link_leads_to s (slice_get d.links l)) 0
-        (length d.links)
+    (length d.links)
     (λ l from below. ap (link_leads_to s) (slice_get-map (λ x. costed_by (f x) x) d.links l) ∙ leads_stay f s (slice_get d.links l))
 
 area_stays : (f : Linked → Option ℕ) (d : Database) → ((link : Linked) → IfSome (f link) (λ c. 0 < c)) → IsAreaDatabase d → IsAreaDatabase (with_costs f d)

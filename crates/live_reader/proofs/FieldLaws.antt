@@ -55,7 +55,7 @@ some_or d (Some n) = n
 
 pick : {X : Type 0} → (all : List Token) (place : ℕ) (result : Option X) (read : ℕ → Json → Option X) (o : Option Member) → IfThere all o →
     Some place ≡ option_map (λ m. m.place) o → ((j : Json) → Stands all place j → result ≡ read place j) →
-        result ≡ option_and_then (λ m. read m.place m.value) o
+    result ≡ option_and_then (λ m. read m.place m.value) o
 pick all place result read None there e says = absurd (subst IsThere e tt)
 pick all place result read (Some m) there e says =
     let same : place ≡ m.place = ap (some_or place) e in
@@ -101,12 +101,12 @@ pub record IsInner (all : List Token) (place : ℕ) (found : Option (ℕ × List
 
 pub inner_there : (all : List Token) (name : List ℕ) (place at : ℕ) (j : Json) → Stands all place j →
     Some at ≡ option_map (λ (found : ℕ × List Member). found.0) (option_and_then (inner name) (object_members place j)) →
-        IsInner all at (option_and_then (inner name) (object_members place j))
+    IsInner all at (option_and_then (inner name) (object_members place j))
 inner_there all name place at j stands e =
     subst (IsInner all at) (over (member_named name) (λ m. option_map (λ inside. (m.place, inside)) (object_members m.place m.value)) (object_members place j))
     (by_member (option_and_then (member_named name) (object_members place j)) (named_stands all _ place j stands)
     (e ∙ sym (ap (option_map (λ (found : ℕ × List Member). found.0)) (over (member_named name)
-        (λ m. option_map (λ inside. (m.place, inside)) (object_members m.place m.value)) (object_members place j)))))
+    (λ m. option_map (λ inside. (m.place, inside)) (object_members m.place m.value)) (object_members place j)))))
   where
     by_value : (m : Member) (v : Json) → Stands all m.place v → Some at ≡
         option_map (λ (found : ℕ × List Member). found.0) (option_map (λ inside. (m.place, inside)) (object_members m.place v)) →
@@ -126,7 +126,7 @@ inner_there all name place at j stands e =
 
     by_member : (o : Option Member) → IfThere all o →
         Some at ≡ option_map (λ (found : ℕ × List Member). found.0) (option_and_then (λ m. option_map (λ inside. (m.place, inside))
-            (object_members m.place m.value)) o) →
+        (object_members m.place m.value)) o) →
         IsInner all at (option_and_then (λ m. option_map (λ inside. (m.place, inside)) (object_members m.place m.value)) o)
     by_member None there f = absurd (subst IsThere f tt)
     by_member (Some m) there f = by_value m m.value there f
@@ -171,9 +171,12 @@ pub area_there : (all : List Token) (area place : ℕ) (found : Option ℕ) (ms 
 area_there all area place found ms None stands is e = absurd (subst IsThere e tt)
 area_there all area place found ms (Some m) stands is e =
     let inside = object_inside all place ms stands in
-    let last : last_where (names_area area) (members_at (place + 1) ms) ≡ m = the_same (list_all is_quad (members_at (place + 1) ms)) is in
-    (m, by_member m (subst (IfThere all) last (last_stands all (names_area area) (place + 1) ms inside.0 inside.1))
-        (same_Some found (option_map (λ (m : Member). m.place) m) e), is)
+    let last : last_where (names_area area) (members_at (place + 1) ms) ≡ m = the_same (list_all is_quad (members_at (place + 1) ms)) is in (
+      m,
+      by_member m (subst (IfThere all) last (last_stands all (names_area area) (place + 1) ms inside.0 inside.1))
+          (same_Some found (option_map (λ (m : Member). m.place) m) e),
+      is,
+    )
   where
     the_same : (b : Bool) → cond b (Some (last_where (names_area area) (members_at (place + 1) ms))) None ≡ Some m →
         last_where (names_area area) (members_at (place + 1) ms) ≡ m

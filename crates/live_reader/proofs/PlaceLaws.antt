@@ -102,12 +102,12 @@ left_out steps left step names places some are is there =
   where
     known : (name : List ℕ) → list_any (λ (later : Step). same_bytes step.name.now later.name.now) (drop left steps) ≡ true →
         list_any (λ (later : Step). same_bytes name later.name.now) (drop left steps) ≡
-            list_any (λ (later : Step). same_bytes name later.name.now) (step ∷ drop left steps)
+        list_any (λ (later : Step). same_bytes name later.name.now) (step ∷ drop left steps)
     known name here = by_test (same_bytes name step.name.now) refl
       where
         by_test : (b : Bool) → same_bytes name step.name.now ≡ b →
             list_any (λ (later : Step). same_bytes name later.name.now) (drop left steps) ≡
-                (same_bytes name step.name.now || list_any (λ (later : Step). same_bytes name later.name.now) (drop left steps))
+            (same_bytes name step.name.now || list_any (λ (later : Step). same_bytes name later.name.now) (drop left steps))
         by_test true e =
             ap (λ n. list_any (λ (later : Step). same_bytes n later.name.now) (drop left steps)) (same_bytes-true name step.name.now e) ∙ here
             ∙ sym (ap (λ b. b || list_any (λ (later : Step). same_bytes name later.name.now) (drop left steps)) e)
@@ -129,7 +129,7 @@ kept steps left step names more places some are is new added =
           ∙ sym (ap (list_any (λ (later : Step). same_bytes name later.name.now)) front);
       places_are = ap (λ l. l ++ step.place ∷ []) are.places_are ∙ sym (in_front step.place (last_places (drop left steps)))
           ∙ sym (ap (λ l. reverse (last_places l)) front ∙ ap (λ b. reverse (cond b (last_places (drop left steps))
-              (step.place ∷ last_places (drop left steps)))) here);
+          (step.place ∷ last_places (drop left steps)))) here);
     }
 
 pub emptied : (n : ℕ) → (n ≤ 0) → n ≡ 0
@@ -189,5 +189,5 @@ walk_breaks_area all area start next ms step Held w is e = by_rest w.rest w.whol
     by_rest no_members whole s = absurd (some_is_none step s)
     by_rest (member name j rest) whole s =
         no_area area (members_at start ms) w.seen (members_at (next + 1 + length (json_tokens j)) rest) (record { name = name; place = next + 1; value = j })
-            whole
+        whole
         (ap quad (sym s.0) ∙ e)

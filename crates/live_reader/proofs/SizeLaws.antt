@@ -89,14 +89,16 @@ link_more n (Some l) links all kind few is = record {
 
 behind_few : (n : ℕ) (r : Result (Option LsaLink) ℕ) (m : Result (List LsaLink) ℕ) (links : List LsaLink) →
     ((l : LsaLink) → r ≡ Ok (Some l) → is_link_type l.kind ≡ true) → ((ls : List LsaLink) → m ≡ Ok ls → AreFewLinks n ls) →
-        said_before option_to_list r m ≡ Ok links → AreFewLinks (suc n) links
+    said_before option_to_list r m ≡ Ok links → AreFewLinks (suc n) links
 behind_few n (Err e) m links kind few is = never e links is
 behind_few n (Ok link) (Err e) links kind few is = never e links is
 behind_few n (Ok link) (Ok ls) links kind few is = link_more n link ls links (λ l e. kind l (ap Ok e)) (few ls refl) (okay _ links is)
 
 pub links_few : (around : ℕ) (ps : List Placed) (links : List LsaLink) → links_in around ps ≡ Ok links → AreFewLinks (length ps) links
-links_few around [] links is = record { few = omega (arith, ap length (okay _ links is));
-    types = ap (list_all (λ (l : LsaLink). is_link_type l.kind)) (sym (okay _ links is)) }
+links_few around [] links is = record {
+  few = omega (arith, ap length (okay _ links is));
+  types = ap (list_all (λ (l : LsaLink). is_link_type l.kind)) (sym (okay _ links is));
+}
 links_few around (p ∷ ps) links is =
     behind_few (length ps) (link_read around p.place (object_members p.place p.value)) (links_in around ps) links
     (λ l e. link_kind around p.place (object_members p.place p.value) l e) (λ ls e. links_few around ps ls e) is
@@ -136,9 +138,9 @@ last_smaller test start no_members = tt
 last_smaller test start (member name j ms) =
     let whole = length-append (json_tokens j) (members_tokens ms) in
     smaller_if (length (members_tokens (member name j ms))) (test (record { name = name; place = start + 1; value = j })) _
-        (last_where test (members_at (start + 1 + length (json_tokens j)) ms))
+    (last_where test (members_at (start + 1 + length (json_tokens j)) ms))
     (wider (length (members_tokens ms)) (length (members_tokens (member name j ms))) _ (omega (arith, whole))
-        (last_smaller test (start + 1 + length (json_tokens j)) ms))
+    (last_smaller test (start + 1 + length (json_tokens j)) ms))
     (omega (arith, whole))
 
 -- an object inside has fewer tokens
@@ -185,8 +187,15 @@ small_links n place head found lsa small is = by_links (links_in found.0 (member
         let all = few links refl in
         let same = okay _ lsa f in
         let count : length (member_values (those_last found.1)) ≡ length (those_last found.1) = length-map (those_last found.1) _ in
-        let bound : length links ≤ n = omega (arith, all.few, count, last_few found.1, ap length small.is, members_few (found.0 + 1) small.inside,
-            small.smaller) in
+        let bound : length links ≤ n = omega (
+          arith,
+          all.few,
+          count,
+          last_few found.1,
+          ap length small.is,
+          members_few (found.0 + 1) small.inside,
+          small.smaller,
+        ) in
         subst (λ (l : Instance). IsSmallLsa (suc n) l.lsa) same (record { types = all.types; size = omega (arith, bound) })
 
 small_with : (n place : ℕ) (head : Option Head) (o : Option (ℕ × List Member)) (lsa : Instance) →
@@ -223,8 +232,10 @@ one_more n k (Ok lsa) (Err e) lsas one more is = never e lsas is
 one_more n k (Ok lsa) (Ok ls) lsas one more is =
     let first = one lsa refl in
     let rest = more ls refl in
-    subst (AreSmallLsas (n + k)) (okay _ lsas is) (record { types = (first.types, rest.types);
-        sizes = omega (arith, first.size, rest.sizes, sum_by-cons size_of_lsa lsa.lsa (lsas_of ls)) })
+    subst (AreSmallLsas (n + k)) (okay _ lsas is) (record {
+      types = (first.types, rest.types);
+      sizes = omega (arith, first.size, rest.sizes, sum_by-cons size_of_lsa lsa.lsa (lsas_of ls));
+    })
 
 lsas_small : (around start : ℕ) (js : Items) (lsas : List Instance) → instances_of_values around (items_at start js) ≡ Ok lsas →
     AreSmallLsas (length (items_tokens js)) lsas
@@ -232,7 +243,7 @@ lsas_small around start no_items lsas is = none_small 1 lsas (okay _ lsas is)
 lsas_small around start (item j js) lsas is =
     subst (λ n. AreSmallLsas n lsas) (sym (length-append (json_tokens j) (items_tokens js)))
     (one_more (length (json_tokens j)) (length (items_tokens js)) (lsa_read around start (object_members start j))
-        (instances_of_values around (items_at (start + length (json_tokens j)) js)) lsas
+    (instances_of_values around (items_at (start + length (json_tokens j)) js)) lsas
     (λ lsa e. lsa_small around start j lsa e) (λ ls e. lsas_small around (start + length (json_tokens j)) js ls e) is)
 
 weaker : (n k : ℕ) (lsas : List Instance) → n ≤ k → AreSmallLsas n lsas → AreSmallLsas k lsas
@@ -264,7 +275,7 @@ areas_small n area around (Some found) lsas small is =
     ap (λ ms. area_lsas_read around found.0 (area_member area ms)) (sym s.is) ∙ is in
     weaker (length (members_tokens s.inside)) n lsas (omega (arith, s.smaller))
     (area_small (length (members_tokens s.inside)) around found.0 (list_all is_quad (members_at (found.0 + 1) s.inside))
-        (last_where (names_area area) (members_at (found.0 + 1) s.inside)) lsas
+    (last_where (names_area area) (members_at (found.0 + 1) s.inside)) lsas
     (last_smaller (names_area area) (found.0 + 1) s.inside) same)
 
 states_small : (n area : ℕ) (o : Option (ℕ × List Member)) (lsas : List Instance) → ((found : ℕ × List Member) → o ≡ Some found → IsSmallInside n found) →

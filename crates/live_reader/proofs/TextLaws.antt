@@ -8,7 +8,7 @@ use Rattle.live_reader.specs.Texts.{begins_token, behind, start_step, token_star
 
 at_byte : (text : List ℕ) (offset n : ℕ) (within : Within) → offset < length text →
     token_start within n (drop offset text) ≡ start_step (begins_token within (get_or text offset 0)) n
-        (λ m. token_start (behind within (get_or text offset 0)) m (drop (offset + 1) text))
+    (λ m. token_start (behind within (get_or text offset 0)) m (drop (offset + 1) text))
 at_byte text offset n within inside = ap (token_start within n) (drop_more text offset 0 inside)
 
 -- the token that was looked for begins here

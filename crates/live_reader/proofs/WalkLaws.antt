@@ -279,7 +279,7 @@ walk_goes_on all start next ms step Held Holds w is more = by_rest w.rest w.left
         let at : Member = record { name = name; place = next + 1; value = j } in
         let seen : Member = record { name = step.name.now; place = step.place; value = j } in
         let same : seen ≡ at = ap (λ (n : List ℕ). record { name = n; place = step.place; value = j }) s.0 ∙
-            ap (λ (p : ℕ). record { name = name; place = p; value = j }) s.1 in
+        ap (λ (p : ℕ). record { name = name; place = p; value = j }) s.1 in
         record {
           seen = w.seen ++ seen ∷ [];
           rest = rest;

@@ -98,7 +98,7 @@ module _ (lsas : List Lsa) where
       by_kind true b none = weaker (router_vertex_back lsas link.id (has_link 1 router)) (λ w. w < 0 + length (routers_among lsas))
           (λ w. Fits (record { from = v; to = w; price = Fixed link.metric }))
           (λ w bound. router_edge_fits (length (routers_among lsas)) (length (networks_among lsas)) v w link.metric from (omega arith)
-              (some_metric link.metric none))
+          (some_metric link.metric none))
           (back_bound 0 (is_router_of link.id) (has_link 1 router) (routers_among lsas))
       by_kind false true none = weaker (network_vertex_back lsas link.id (attaches router))
           (λ w. w < length (routers_among lsas) + length (networks_among lsas))

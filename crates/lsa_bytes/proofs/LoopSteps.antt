@@ -61,9 +61,9 @@ edges_more all kind vertex next i lsas read lsa before now whole same within is 
     let left = filter (is_kind kind) (drop (i + 1) lsas) in
     ap (λ (v : ℕ). now ++ edges_in_order all v left) next_is
     ∙ added before here now (edges_in_order all vertex (filter (is_kind kind) (drop i lsas))) (edges_in_order all (vertex + cond (is_kind kind lsa) 1 0) left)
-        whole
+    whole
     (edges_step all kind vertex i lsas lsa (subst (λ (ls : List Lsa). i < length ls) same within) (subst (λ (ls : List Lsa). lsa ≡ get_or ls i lsa) same is))
-        is_now so_far
+    is_now so_far
 
 -- the next vertex is near
 pub near_more : (b : Bool) (vertex next first i : ℕ) → next ≡ vertex + cond b 1 0 → vertex ≤ first + i → next ≤ first + (i + 1)

@@ -55,7 +55,7 @@ ids_pass kind id (link ∷ links) = by_kind (nat_eq link.kind kind) (ids_pass ki
   where
     by_kind : (b : Bool) → list_any (λ other. nat_eq other id) (ids_of_type kind links) ≡ has_link kind id (Links links) →
         list_any (λ other. nat_eq other id) (map (λ (l : LsaLink). l.id) (cond b (link ∷ filter (λ l. nat_eq l.kind kind) links)
-            (filter (λ l. nat_eq l.kind kind) links)))
+        (filter (λ l. nat_eq l.kind kind) links)))
         ≡ (b && nat_eq link.id id || has_link kind id (Links links))
     by_kind true rest = ap (λ (c : Bool). nat_eq link.id id || c) rest
     by_kind false rest = rest

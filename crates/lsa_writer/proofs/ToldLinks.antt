@@ -80,7 +80,7 @@ routers_are configs d costs =
     let ends = link_ends configs d.links in
     filter-append is_router_lsa (own_all configs said) (of_subnets ends d.subnets)
     ∙ ap (λ (xs : List Lsa). xs ++ filter is_router_lsa (of_subnets ends d.subnets)) (keeps_all is_router_lsa (own_all configs said)
-        (router_there configs said))
+    (router_there configs said))
     ∙ ap (λ (xs : List Lsa). own_all configs said ++ xs) (keeps_none is_router_lsa (of_subnets ends d.subnets) (network_there ends d.subnets))
     ∙ append_nothing (own_all configs said)
   where

@@ -227,7 +227,7 @@ far_is : (all : List Port) (l : ℕ) (p : Port) → p.interface.kind ≡ PointTo
     far_among (linked all) (transit_subnets all) p p.interface.kind ≡ ToRouter q.router
 far_is all l p kind m q place at =
     ap (far_among (linked all) (transit_subnets all) p) kind ∙ ap (λ o. ToRouter (router_at (linked all) o)) place ∙
-        ap ToRouter (router_at_is (linked all) m q at)
+    ap ToRouter (router_at_is (linked all) m q at)
 
 -- each link has its other end, or leads to a subnet and has none
 link_has_link_back : (area : ℕ) (routers : List Router) → IsSound (0 + length routers) (ports area routers) →
@@ -244,9 +244,11 @@ link_has_link_back area routers sound l p at = by_kind p.interface.kind refl
     by_kind PointToPoint is =
         let all = ports area routers in
         let m = link_back_found (0 + length routers) all sound l p at is in
-        let other : IsLinkBackOf l (link_of all p) (Some (link_of all m.port)) =
-        (ap (link_back_among (linked all) m.port) m.kind ∙ m.back, far_is all l p is m.place m.port m.forth m.at,
-            far_is all m.place m.port m.kind l p m.back at) in
+        let other : IsLinkBackOf l (link_of all p) (Some (link_of all m.port)) = (
+          ap (link_back_among (linked all) m.port) m.kind ∙ m.back,
+          far_is all l p is m.place m.port m.forth m.at,
+          far_is all m.place m.port m.kind l p m.back at,
+        ) in
         subst (λ o. HasLinkBack (database_of area routers) l (link_of all p) (ToRouter (router_at (linked all) o)) o) (sym m.forth)
         (m.apart, subst (IsLinkBackOf l (link_of all p)) (sym (at_map (link_of all) (linked all) m.place m.port m.at)) other)
     by_kind Broadcast is = tt

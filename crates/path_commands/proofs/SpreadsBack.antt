@@ -41,7 +41,7 @@ costs_named p w = map (named_cost w) p.vars
 
 names_costs : (w : List ℕ) (names : List VarName) →
     AllZip (λ name line. (line.router ≡ name.router) × (line.interface ≡ name.interface) × (line.cost ≡ slice_index w name.var)) names
-        (map (named_cost w) names)
+    (map (named_cost w) names)
 names_costs w [] = tt
 names_costs w (name ∷ names) = ((refl, refl, refl), names_costs w names)
 

@@ -87,7 +87,7 @@ pub decided_unknown : {X : Type 0} (d : Database) (router interface : List ℕ) 
     option_or (f link) (if is_link_named d router interface link then Some range else None)) d.links
 decided_unknown d router interface f range unknown =
     map_agree (is_link_named d router interface) f (λ link. option_or (f link) (if is_link_named d router interface link then Some range else None)) d.links
-        unknown
+    unknown
     (λ link unnamed. or_none (f link) ∙ ap (λ b. option_or (f link) (if b then Some range else None)) (sym unnamed))
 
 pub number_within : (d : Database) (router interface : List ℕ) → IsAreaDatabase d → knows_link d router interface ≡ true →

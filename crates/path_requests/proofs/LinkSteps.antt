@@ -27,7 +27,7 @@ bound_first bound (Some x) xs = refl
 -- the bound of one variable more
 pub bound_added : {R : Type 0} → (bound : R → ℕ) (range : ℕ → Option R) (own : List ℕ) (i : ℕ) (before now : List ℕ) → i < length own →
     now ≡ before ++ map bound (option_to_list (range (get_or own i 0))) →
-        before ++ map bound (filter_map range (drop i own)) ≡ map bound (filter_map range own) →
+    before ++ map bound (filter_map range (drop i own)) ≡ map bound (filter_map range own) →
     now ++ map bound (filter_map range (drop (i + 1) own)) ≡ map bound (filter_map range own)
 bound_added {R} bound range own i before now within is_now so_far =
     let bounds : List ℕ → List ℕ = λ links. map bound (filter_map range links) in

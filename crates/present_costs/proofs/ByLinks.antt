@@ -69,7 +69,7 @@ by_links d w same =
     graph_with_prices w d (map Var (numbers_from 0 (length d.links)))
     ∙ ap (graph_at d) (map-map (fixed_at w) Var (numbers_from 0 (length d.links))
     ∙ ap (λ n. map (λ l. Fixed (slice_index w l)) (numbers_from 0 n)) (sym same) ∙
-        all_places w (slice_index w) 0 (λ k within. ap (slice_index w) (omega arith)))
+    all_places w (slice_index w) 0 (λ k within. ap (slice_index w) (omega arith)))
 
 -- so the simple paths of a request are the same
 pub path_by_links : (d : Database) (w : List ℕ) (ends : Ends) (es : List ℕ) → length w ≡ length d.links →

@@ -121,4 +121,4 @@ whole_kept number (suc n) [] whole = absurd whole
 whole_kept number zero (e ∷ entries) whole = absurd whole
 whole_kept number (suc n) (e ∷ entries) whole =
     subst (λ k. AreSeveralTrees (k + n) (map (renumbered number) entries)) (sym (same_subtrees number e))
-        (whole_kept number (subtree_count e + n) entries whole)
+    (whole_kept number (subtree_count e + n) entries whole)

@@ -122,8 +122,10 @@ short_entry number n (Split var value) short = short
 short_entry number n (Halve var value wide) short =
     ((short.0.0, short.0.1, λ none. short.0.2 (none_mapped (renumbered_member number) wide.basis none)), tt)
 short_entry number n (Refute parts) short = (
-  (λ none. short.0.0 (none_mapped (renumbered_multiplier number) parts none),
-      All-map (λ (part : ℕ × ℕ). part.1 < 10 ^ 31) (renumbered_multiplier number) parts short.0.1),
+  (
+    λ none. short.0.0 (none_mapped (renumbered_multiplier number) parts none),
+    All-map (λ (part : ℕ × ℕ). part.1 < 10 ^ 31) (renumbered_multiplier number) parts short.0.1,
+  ),
   omega (arith, length-map parts (renumbered_multiplier number), short.1),
 )
 short_entry number n Undone short = short

@@ -111,7 +111,7 @@ pub link_cost : (chosen : ℕ → Linked → Bool) (a : Asked) (d : Database) (w
     (before : Option ℕ) (k : ℕ) (link : Linked) → slice_get links k ≡ Some link → is_link_named d r x link ≡ true →
     ((j : ℕ) (other : Linked) → j ≢ k → slice_get links j ≡ Some other → is_link_named d r x other ≡ false) →
     cost_in (map (named_cost w) (names_where chosen a d l links)) r x before ≡
-        cost_where (chosen (l + k) link) w (price_of a d (l + k) link (range_of a d link)) before
+    cost_where (chosen (l + k) link) w (price_of a d (l + k) link (range_of a d link)) before
 link_cost chosen a d w l [] r x before k link there named others = absurd (cc)
 link_cost chosen a d w l (first ∷ links) r x before zero link there named others =
     let same : first ≡ link = cc in

@@ -173,13 +173,13 @@ section_of chosen d asked files bytes ls w k file printed there =
     slice_get-map (λ (f : ConfigFile). config_of f.name f.bytes) files k
     ∙ ap (option_map (λ (f : ConfigFile). config_of f.name f.bytes)) there in
     let stands : slice_index_or d.routers k [] ≡ (config_of file.name file.bytes).name = named_at d files k (config_of file.name file.bytes) printed.names
-        config in
+    config in
     let inside = router_in d files k (config_of file.name file.bytes) printed.names config in
     let run : OneRun (config_of file.name file.bytes).name ls
     = subst (λ (them : List CostLine). OneRun (config_of file.name file.bytes).name them) (sym printed.are)
     (subst (λ (r : List ℕ). OneRun r (map (named_cost w) (names_where chosen asked d 0 d.links))) stands
     (one_run chosen asked d w k 0 d.links printed.base.different inside (λ j link link_in. (printed.base.each_link j link link_in).router)
-        printed.base.in_order)) in
+    printed.base.in_order)) in
     record {
       stands = stands;
       section_is = printed.prints (config_of file.name file.bytes).name run;

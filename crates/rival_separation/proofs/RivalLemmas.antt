@@ -264,8 +264,13 @@ pub found_as : (g : Area) (p : Point) (ends others : Ends) (limit : ℕ) (room :
 found_as g p ends others limit room found same_end same_excluded =
     let same : (record { start = others.start; end = ends.end; excluded = ends.excluded }) ≡ others =
     λ i. record { start = others.start; end = same_end i; excluded = same_excluded i } in
-    subst (λ (x : Ends). HasDistancesBelow g p x limit room) same (record { room_for = found.room_for; marks = found.marks; least = found.least; tight =
-        found.tight })
+    subst (λ (x : Ends). HasDistancesBelow g p x limit room) same (record {
+      room_for = found.room_for;
+      marks = found.marks;
+      least = found.least;
+      tight =
+          found.tight;
+    })
 
 -- numbers that add up
 record Sums (from to : Option ℕ) (price : ℕ) : Type 0 where

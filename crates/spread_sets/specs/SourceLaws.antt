@@ -211,7 +211,7 @@ row_listed p sets (Same name i j) kept are is =
     let is_set = All-contains (IsMemberSet p) sets set are is.1.listed in
     let tie = form_of_tie p.graph (length p.low) in
     Contains-append_right (forms_of_pairs p (form_between p.graph (length p.low)) p.requests) (forms_of_pairs p tie p.requests)
-        (tie (edges_of p i) (edges_of p j))
+    (tie (edges_of p i) (edges_of p j))
     (pair_listed p tie p.requests i (edges_of p j) (member_known p set i is_set is.2)
     (path_listed p (ends_in p set) (edges_of p j) kept.graph (member_path p set j kept.problem is_set is.3)))
 

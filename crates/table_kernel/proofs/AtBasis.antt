@@ -96,7 +96,7 @@ pub number_up : (D g : ℕ) (low : List ℕ) (lows : List (List ℤ)) (f : Form)
 number_up D g low lows f zero =
     ap (λ z. (pos (D * g) *ℤ value_for_costs f low) +ℤ z) (lows_up g f.coefficients lows 0)
     ∙ ring (pos D ∷ pos g ∷ value_for_costs f low ∷ from_lows f.coefficients lows 0 ∷ []) ((var 0 ⊗ var 1) ⊗ var 2 ⊕ var 3 ⊗ var 1)
-        ((var 0 ⊗ var 2 ⊕ var 3) ⊗ var 1) refl
+    ((var 0 ⊗ var 2 ⊕ var 3) ⊗ var 1) refl
 number_up D g low lows f (suc k) = lows_up g f.coefficients lows (suc k)
 
 mixture_up : (g : ℕ) (ms : List ℤ) (fs : List Form) (i : ℕ) → mixture (scaled_by g ms) fs i ≡ (mixture ms fs i *ℤ pos g)

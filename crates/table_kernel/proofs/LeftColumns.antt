@@ -86,7 +86,7 @@ module _ (rows : List (List ℤ)) (line : List ℤ) (c d : ℕ) (c_is : IsPositi
   read_first : LeadsNoNegative (turned_column own (numbers_in_column d rows) (pos others) (numbers_in_column c rows)) → ComesFirst rows line c d
   read_first leads =
       subst (λ z. LeadsNoNegative (turned_column own (numbers_in_column d rows) z (numbers_in_column c rows))) (sym (positive_is (number_at line d) d_is.1))
-          leads
+      leads
 
   pub level_first : ((u : ℕ) → u < length rows →
       crosswise (slice_index_or rows u []) line c d ≡ crosswise (slice_index_or rows u []) line d c) →
@@ -214,7 +214,7 @@ leads_scaled D own c d others (line ∷ lines) shares leads =
     let y = number_at line.numbers c in
     let news = turned_column own (numbers_in_column (suc d) (map (scaled_line D) lines)) others (numbers_in_column (suc c) (map (scaled_line D) lines)) in
     let same : ((pos own *ℤ number_at (scaled_line D line) (suc d)) -ℤ (others *ℤ number_at (scaled_line D line) (suc c))) ≡
-        (((pos own *ℤ x) -ℤ (others *ℤ y)) *ℤ pos g) =
+    (((pos own *ℤ x) -ℤ (others *ℤ y)) *ℤ pos g) =
     ap (λ z. (pos own *ℤ z) -ℤ (others *ℤ number_at (scaled_line D line) (suc c))) (scaled_number D line (suc d))
     ∙ ap (λ z. (pos own *ℤ (x *ℤ pos g)) -ℤ (others *ℤ z)) (scaled_number D line (suc c))
     ∙ ring (pos own ∷ x ∷ others ∷ y ∷ pos g ∷ []) ((var 0 ⊗ (var 1 ⊗ var 4)) ⊖ (var 2 ⊗ (var 3 ⊗ var 4))) (((var 0 ⊗ var 1) ⊖ (var 2 ⊗ var 3)) ⊗ var 4) refl in

@@ -204,7 +204,7 @@ module _ (k : Kernel) (m : IsKernel k) (place v bound : ℕ) (place_in : place <
       ((c : ℕ) → c < width_of k → number_at new.numbers c ≡ (negsuc 0 *ℤ number_at (line_of k v).numbers c)) →
       new.denominator ≡ (line_of k v).denominator →
       new.constant ≡ (((pos (slice_index k.table.costs.high v) -ℤ pos (slice_index k.table.costs.low v)) *ℤ (line_of k v).denominator) -ℤ
-          (line_of k v).constant) →
+      (line_of k v).constant) →
       StandsForPlace k place new
   high_stands new known member count put denominator constant =
       let old = line_of k v in
@@ -312,5 +312,14 @@ keeps_entering old mid line keeps long = record {
 }
 
 pub keeps_self : (k : Kernel) → KeepsNumbers k k
-keeps_self k = record { table = refl; common = refl; lows = refl; leads = refl; constants = refl; uses = refl; turns = refl; left = omega arith;
-    entering = refl }
+keeps_self k = record {
+  table = refl;
+  common = refl;
+  lows = refl;
+  leads = refl;
+  constants = refl;
+  uses = refl;
+  turns = refl;
+  left = omega arith;
+  entering = refl;
+}

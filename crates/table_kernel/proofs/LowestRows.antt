@@ -90,7 +90,7 @@ module _ (k : Kernel) (column v : ℕ) (lowest : Lowest) (v_in : v < length k.lo
         let P : ℕ → Type 0 = λ u. (l : Lowest) → IsLowestOf k column u l → (nat_abs l.denominator ∣ nat_abs new) × IsSmallOf k column u l in
         let goes_in : nat_abs lowest.denominator ∣ nat_abs new =
         subst (λ (n : ℕ). nat_abs lowest.denominator ∣ n) (sym made.1) (subst (λ (z : ℤ). nat_abs z ∣ both) d_is
-            (right_divides_lcm (nat_abs common) (nat_abs d))) in
+        (right_divides_lcm (nat_abs common) (nat_abs d))) in
         let wider : nat_abs common ∣ nat_abs new = subst (λ (n : ℕ). nat_abs common ∣ n) (sym made.1) (left_divides_lcm (nat_abs common) (nat_abs d)) in
         subst (IsLowestTo k column (v + 1)) (sym (read_number new (omega (arith, new_small))))
         (record {
@@ -152,7 +152,7 @@ may_fit k column common may least v v_in lowest is =
     ∙ ap nat_abs (constant_of_line (turn_of_line k column v) column k.entering (line_of k v) lowest new is turned)
     ∙ unsigned_abs-mul new.constant lowest.denominator in
     over_divisor (nat_abs lowest.constant) (nat_abs new.constant) (nat_abs new.denominator) (nat_abs lowest.denominator) (nat_abs common) (nat_abs may.common)
-        (2 ^ 44)
+    (2 ^ 44)
     same (least.least may.lows (nat_abs may.common) may.turned may.bounded.divides) (least.each v v_in lowest is).0 (may.bounded.divides v no_line new_in)
     (size_positive may.common may.bounded.positive) (size_positive new.denominator turned.positive) (size_positive lowest.denominator is.positive)
     (may.bounded.limit v no_line new_in)

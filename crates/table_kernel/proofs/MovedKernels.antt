@@ -71,7 +71,7 @@ moved_shape k s next before after column far o next_width is =
       each =
           subst (λ (w : ℕ). All (λ (line : Line). length line.numbers ≡ w) s.lows.items) (sym width)
           (all_moved far k.lows.items s.lows.items (λ (line : Line). length line.numbers ≡ width_of k) (λ (line : Line). length line.numbers ≡ width_of k)
-              is.lines
+          is.lines
           (λ old new m long. ap (λ (line : Line). length line.numbers) m.same ∙ long) o.each);
       leads = ap (λ leads. length leads.items) is.keeps.leads ∙ o.leads ∙ sym width;
       lead =

@@ -44,7 +44,7 @@ raised_line_moved column far fall line far_is =
     let times : nat_abs (fall *ℤ number_at line.numbers column) ≡ nat_abs fall * nat_abs (number_at line.numbers column) =
     unsigned_abs-mul fall (number_at line.numbers column) in
     let most : nat_abs fall * nat_abs (number_at line.numbers column) ≤ nat_abs fall * step_of line = mul-le-mul_left (nat_abs fall) (number_step line column)
-        in
+    in
     let is : nat_abs fall * step_of line ≡ far * step_of line = ap (λ (m : ℕ). m * step_of line) far_is in
     record {
       same = refl;
@@ -101,7 +101,7 @@ low_lines_moved far v lines None fall v_in far_is =
     set_moved far v lines lines _ v_in (none_moved far lines) (lowered_line_moved far fall (slice_index_or lines v no_line) far_is)
 low_lines_moved far v lines (Some j) fall v_in far_is =
     set_moved far v lines (map (raised_kernel_line j fall) lines) _ v_in (raised_moved j far fall lines far_is)
-        (zero_line_moved far (slice_index_or lines v no_line))
+    (zero_line_moved far (slice_index_or lines v no_line))
 
 pub high_lines_moved : (far : ℕ) (lines : List Line) (column : Option ℕ) (fall : ℤ) → nat_abs fall ≡ far →
     AreLinesMoved far lines (lines_after_high lines column fall)
@@ -143,7 +143,7 @@ pub limit_after : (D far : ℕ) (old new : Line) → IsLineMoved far old new →
 limit_after D far old new m may =
     let share : share_of D new ≡ share_of D old = ap (share_of D) m.same in
     let product : nat_abs new.constant * share_of D old ≤ (nat_abs old.constant + far * step_of old) * share_of D old = mul-le-mul_right (share_of D old) m.size
-        in
+    in
     subst (λ (s : ℕ). nat_abs new.constant * s ≤ 2 ^ 44) (sym share) (omega (arith, product, may))
 
 -- less room is wanted

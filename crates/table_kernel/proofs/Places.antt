@@ -42,7 +42,7 @@ module _ (costs : CostBox) (rows : List Form) (D : ℕ) (lows : List (List ℤ))
   low_total v v_in =
       total_is (member_form (length costs.low) rows (Low v (slice_index costs.low v)))
       ∙ ap (λ z. (pos D *ℤ z) +ℤ product_sum (member_form (length costs.low) rows (Low v (slice_index costs.low v))).coefficients zs)
-          (low_value costs.low rows v v_in)
+      (low_value costs.low rows v v_in)
       ∙ ap (λ z. (pos D *ℤ pos 0) +ℤ z) (unit_sum (length costs.low) v (pos 1) zs v_in (sym zs_long))
       ∙ ring (pos D ∷ number_at zs v ∷ []) ((var 0 ⊗ num (pos 0)) ⊕ num (pos 1) ⊗ var 1) (var 1) refl
 

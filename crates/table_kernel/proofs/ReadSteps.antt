@@ -44,7 +44,7 @@ pub one_more_read : (old mid : Kernel) (lows : Vec Line Global) (v : ℕ) (row :
 one_more_read old mid lows v row new s v_in b row_is long small read put =
     let there : v < length mid.lows.items = omega (arith, b.count, v_in) in
     let own : slice_index_or lows.items v no_line ≡ new = ap (λ (ls : List Line). slice_index_or ls v no_line) put ∙
-        get_or-set_same mid.lows.items v new no_line there in
+    get_or-set_same mid.lows.items v new no_line there in
     record {
       keeps = record {
         table = b.keeps.table;

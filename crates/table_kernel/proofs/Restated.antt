@@ -210,7 +210,7 @@ filled_first old new place keeps lines =
           (ap (λ (m : ℕ). slice_set (blank_line m) 0 q) (sym (numbers_long old place))
           ∙ fill_first (nat_abs old.common) z zs (blank_line (length zs)) (blank_line (length zs)) (slice_set (blank_line (length zs)) 0 q) q
           (blank_size (length zs)) (ap blank_line (let e : length zs ≡ length (blank_line (length zs)) - 1 = omega (arith, blank_size (length zs)) in e)) refl
-              refl);
+          refl);
       keeps = keeps;
     }
 

@@ -31,7 +31,7 @@ same_shaped old new t h s =
     let width : width_of new ≡ width_of old = ap (λ (costs : CostBox). length costs.low) t.costs in
     let constants = ap length h.constants in
     let counted : length (members_of_box new.table.costs (length new.table.rows.items)) ≡
-        length (members_of_box old.table.costs (length old.table.rows.items)) =
+    length (members_of_box old.table.costs (length old.table.rows.items)) =
     ap (λ (costs : CostBox). length (members_of_box costs (length new.table.rows.items))) t.costs
     ∙ ap (λ (rows : List Form). length (members_of_box old.table.costs (length rows))) t.rows in
     record {
@@ -67,7 +67,7 @@ same_bounded old new t h b =
           (subst (λ (ls : Vec Line Global). All (λ (line : Line). nat_abs line.denominator ∣ nat_abs old.common) ls.items) (sym h.lows) b.divides);
       low = subst (λ (z : ℤ). All (λ (line : Line). nat_abs line.constant * share_of (nat_abs z) line ≤ 2 ^ 44) new.lows.items) (sym h.common)
           (subst (λ (ls : Vec Line Global). All (λ (line : Line). nat_abs line.constant * share_of (nat_abs old.common) line ≤ 2 ^ 44) ls.items) (sym h.lows)
-              b.low);
+          b.low);
       rows = subst (All (λ (row : Form). weight_of row ≤ 2 ^ 16)) (sym t.rows) b.rows;
       constants = subst (AllWithin (2 ^ 62)) (sym h.constants) b.constants;
     }

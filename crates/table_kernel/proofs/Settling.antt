@@ -123,6 +123,6 @@ none_positive k place b e best c c_in =
     let common_is = positive_is k.common b.positive in
     let denominator_is = positive_is k.entering.denominator e.stands.positive in
     low_number z n (nat_abs k.entering.denominator) (nat_abs k.common) (size_positive k.entering.denominator e.stands.positive)
-        (size_positive k.common b.positive)
+    (size_positive k.common b.positive)
     (ap (λ (D : ℤ). z *ℤ D) (sym common_is) ∙ e.stands.numbers c c_in ∙ ap (λ (D : ℤ). n *ℤ D) denominator_is)
     (best c c_in)

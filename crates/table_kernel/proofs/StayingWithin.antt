@@ -51,7 +51,7 @@ constant_same turn column entering old new C t some first second =
     ∙ ap nat_abs t.constant
     ∙ unsigned_abs-mul moved new.denominator in
     same_over (nat_abs new.constant) (nat_abs moved) m d C (C / m) (C / d) same (div-mul_cancel m first) (div-mul_cancel d second) some
-        (size_positive new.denominator t.positive)
+    (size_positive new.denominator t.positive)
 
 -- a number that stays within the limit with a share that is positive is within it itself
 pub within_share : (n share : ℕ) → 0 < share → n * share ≤ 2 ^ 44 → n ≤ 2 ^ 62

@@ -66,7 +66,7 @@ pub data IsLineTooLarge (k : Kernel) (place : ℕ) : Type 0 where
 abbrev pub IsNotAfterInKernel : Kernel → ℕ → ℕ → Type 0
 IsNotAfterInKernel k first second =
     LeadsNoNegative (turned_column (nat_abs (number_at k.entering.numbers first)) (column_of k second) (number_at k.entering.numbers second)
-        (column_of k first))
+    (column_of k first))
 
 -- a best of the columns in which the entering line is positive; none where it is positive in none
 abbrev pub IsBestColumn : Kernel → Option ℕ → Type 0

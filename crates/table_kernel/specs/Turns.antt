@@ -31,7 +31,7 @@ next_common k column = common_after k.entering column k.lows.items (nat_abs k.co
 abbrev pub constant_size : Kernel → ℕ → ℕ → ℕ → ℕ
 constant_size k column common var =
     nat_abs (turned_number (turn_of_line k column var) (line_of k var).constant k.entering.constant) *
-        (common / denominator_after k.entering column (line_of k var))
+    (common / denominator_after k.entering column (line_of k var))
 
 -- all lines of x - low stay small in a turn at a column
 abbrev pub LinesStaySmall : Kernel → ℕ → Type 0

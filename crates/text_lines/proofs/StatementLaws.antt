@@ -26,7 +26,7 @@ said_push_from n (first ∷ more) line =
     ap (λ (rest : List SaidLine). said_in_line n (said_words (words first)) ++ rest) (said_push_from (n + 1) more line
     ∙ ap (λ (k : ℕ). said_from (n + 1) more ++ said_in_line k (said_words (words line))) place)
     ∙ sym (append_assoc (said_in_line n (said_words (words first))) (said_from (n + 1) more)
-        (said_in_line (n + length (first ∷ more)) (said_words (words line))))
+    (said_in_line (n + length (first ∷ more)) (said_words (words line))))
 
 -- the lines that say something, and one line more
 pub said_push : (file : List (List ℕ)) (line : List ℕ) → said_lines (file ++ line ∷ [])
@@ -252,7 +252,7 @@ holds_from : {F : Type 0} (rules : TextRules F) (P : List SaidLine → Type 0) (
 holds_from {F} rules P [] front step holds none = subst (λ (file : List (List ℕ)). P (statements file)) (sym (append-nil front)) holds
 holds_from {F} rules P (line ∷ rest) front step holds none =
     let parts = append-none (faults_at (length front + 1) (fault_of_line rules front line)) (faults_by_line (fault_of_line rules) (front ++ line ∷ []) rest)
-        none in
+    none in
     let lawful = not_fault (nat_le (length line) 65536) (fault_of_words rules (said_lines front) (said_words (words line))) rules.bad_line
     (no_fault_in (length front + 1) (fault_of_line rules front line) parts.0) in
     subst (λ (file : List (List ℕ)). P (statements file)) (append_assoc front (line ∷ []) rest)

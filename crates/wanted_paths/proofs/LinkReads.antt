@@ -32,7 +32,7 @@ leads_over d hop next number router link leads there is to tests =
 -- the edges of a hop are those of its link
 pub edges_over : (d : Database) (g : Area) (hop : List ℕ × List ℕ) (next : List ℕ) (number router : ℕ) (link : Linked) (edges : List ℕ) →
     slice_get d.links number ≡ Some link → number ≡ link_number d hop.0 hop.1 → router ≡ router_number d next →
-        hop_edges d g number (Some link) router ≡ edges →
+    hop_edges d g number (Some link) router ≡ edges →
     edges ≡ hop_edges d g (link_number d hop.0 hop.1) (slice_get d.links (link_number d hop.0 hop.1)) (router_number d next)
 edges_over d g hop next number router link edges there is to are =
     sym are ∙ ap (hop_edges d g number (Some link)) to ∙ ap (λ (o : Option Linked). hop_edges d g number o (router_number d next)) (sym there)

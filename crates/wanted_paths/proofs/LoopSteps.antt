@@ -47,9 +47,9 @@ pub request_added : (d r : Database) (items : List DirectiveLine) (i : ℕ) (ite
     item ≡ get_or items i item →
     now ≡ before ++ option_to_list (request_of r (outline r) item.what) →
     before ++ filter_map (λ (line : DirectiveLine). request_of d (outline d) line.what) (drop i items) ≡
-        filter_map (λ (line : DirectiveLine). request_of d (outline d) line.what) items →
+    filter_map (λ (line : DirectiveLine). request_of d (outline d) line.what) items →
     now ++ filter_map (λ (line : DirectiveLine). request_of d (outline d) line.what) (drop (i + 1) items) ≡
-        filter_map (λ (line : DirectiveLine). request_of d (outline d) line.what) items
+    filter_map (λ (line : DirectiveLine). request_of d (outline d) line.what) items
 request_added d r items i item before now same within is is_now so_far =
     let wants : DirectiveLine → Option Request = λ line. request_of d (outline d) line.what in
     added (filter_map wants) items i item before (option_to_list (wants item)) now (filter_map wants items) (filter_map wants (drop (i + 1) items)) within is
@@ -89,7 +89,7 @@ next_hop d line hops i hop last next leads within is on tests =
 
 pub hop_leads : (d : Database) (line : ℕ) (hops : List (List ℕ × List ℕ)) (i : ℕ) (hop : List ℕ × List ℕ) (last next : List ℕ) (leads : Bool) →
     i < length hops → hop ≡ get_or hops i hop → next ≡ next_name (take (length hops - (i + 1)) (drop (i + 1) hops)) last → leads ≡ leads_on d hop next →
-        leads ≡ true →
+    leads ≡ true →
     broken_faults d line (i + 1) (drop i hops) last ≡ broken_faults d line 1 hops last →
     broken_faults d line (i + 1 + 1) (drop (i + 1) hops) last ≡ broken_faults d line 1 hops last
 hop_leads d line hops i hop last next leads within is on tests holds left =
@@ -99,7 +99,7 @@ hop_leads d line hops i hop last next leads within is on tests holds left =
 pub hop_broken : (d : Database) (line : ℕ) (hops : List (List ℕ × List ℕ)) (i : ℕ) (hop : List ℕ × List ℕ) (last next : List ℕ) (leads : Bool)
     (stop : Refusal ResolutionFault (Unit {0})) →
     i < length hops → hop ≡ get_or hops i hop → next ≡ next_name (take (length hops - (i + 1)) (drop (i + 1) hops)) last → leads ≡ leads_on d hop next →
-        leads ≡ false →
+    leads ≡ false →
     broken_faults d line (i + 1) (drop i hops) last ≡ broken_faults d line 1 hops last → TellsResolution (Some (BrokenPath line (i + 1))) stop →
     TellsResolution (first_of (broken_faults d line 1 hops last)) stop
 hop_broken d line hops i hop last next leads stop within is on tests fails left tells =

@@ -23,8 +23,13 @@ returns c =
     let network = c.args.network.now in
     let limits = c.args.limits.now in
     let change = c.in_ok-change.change in
-    let found = subst (λ (present : List (Option ℕ)). IsChangeFound (record { problem = network.problem; present = present; top = limits.top; nodes =
-        limits.nodes }) change)
+    let found = subst (λ (present : List (Option ℕ)). IsChangeFound (record {
+      problem = network.problem;
+      present = present;
+      top = limits.top;
+      nodes =
+          limits.nodes;
+    }) change)
     c.requires.present c.in_ok-change.ensures in
     IfOk-weaker c.report_of_change-report.result (Reports (change_status change) (change_text network.request_file network.lsdb network.problem change))
     (IsReportIn (limits_seen limits) network.request_file network.lsdb network.problem)

@@ -42,7 +42,7 @@ fewest_text-requires-clause-costs c =
     let network = c.args.network.now in
     let shown = told at _ c.in-Fewest.is in
     changed_short network.request_file network.lsdb network.problem c.in-Fewest.costs c.requires.built (asks at).problem (asks at).bound_small
-        shown.fewest.fit.within
+    shown.fewest.fit.within
 
 pub fewest_text-requires-clause-cores : goal.fewest_text-requires-clause-cores
 fewest_text-requires-clause-cores c =

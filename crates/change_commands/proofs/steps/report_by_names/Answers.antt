@@ -39,7 +39,7 @@ pub report_of_wanted-requires-clause-wanted : goal.report_of_wanted-requires-cla
 report_of_wanted-requires-clause-wanted c =
     let names = c.args.names.now in
     ap length (wanted names c.deref.result.now c.args.lines.now c.in_ok-wanted.field-0 c.in-Ok.wanted c.in-Ok.is c.in_ok-wanted.ensures).1 ∙
-        lines_length names c.deref.result.now c.args.lines.now
+    lines_length names c.deref.result.now c.args.lines.now
     ∙ ap length (c.deref.ensures.value ∙ c.in_ok-present.ensures) ∙ length-map c.args.network.now.lsdb.links (present_cost c.args.network.now.request_file)
     ∙ sym (ap (λ (d : Database). length d.links) c.requires.names)
 
@@ -47,7 +47,7 @@ pub report_of_wanted-requires-clause-positive : goal.report_of_wanted-requires-c
 report_of_wanted-requires-clause-positive c =
     let names = c.args.names.now in
     subst (λ (cs : List ℕ). All (λ cost. 0 < cost) cs) (sym (wanted names c.deref.result.now c.args.lines.now c.in_ok-wanted.field-0 c.in-Ok.wanted c.in-Ok.is
-        c.in_ok-wanted.ensures).1)
+    c.in_ok-wanted.ensures).1)
     (lines_above names c.deref.result.now c.args.lines.now
     (subst (λ (cs : List ℕ). All (λ cost. 0 < cost) cs) (sym (c.deref.ensures.value ∙ c.in_ok-present.ensures)) c.requires.network.above) c.requires.lines)
 

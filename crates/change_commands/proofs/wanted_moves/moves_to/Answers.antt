@@ -14,5 +14,5 @@ invariant_of-result c =
     c.from_items.ensures c.from_items-2.ensures
     (c.from_items-3.ensures ∙ c.in_ok-steps.ensures ∙ ap (steps_of c.args.by c.args.names.now) moved)
     (c.requires.wanted ∙ sym c.requires.present) c.requires.above (most_as c.args.present.items c.as_slice.result.now c.as_slice.ensures.value
-        c.keeps_bits.ensures)
+    c.keeps_bits.ensures)
     c.requires.positive (most_as c.args.wanted.items c.as_slice-2.result.now c.as_slice-2.ensures.value c.keeps_bits-2.ensures)

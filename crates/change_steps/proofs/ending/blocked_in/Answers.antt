@@ -34,7 +34,7 @@ follows c =
     subst (λ (m : List Bool). MayFollow c.args.held_rollout.now.rollout c.args.held_rollout.now.held m c.loop-step.step) c.deref.ensures.value
     (follows_by c.args.held_rollout.now.rollout c.args.held_rollout.now.held c.deref.result.now c.loop-step.step
     (let below = c.loop-step-test.true in let count = c.step_count-step-end.ensures in omega (arith, below, count))
-        (sym c.may_follow.ensures ∙ c.if-may_follow.true))
+    (sym c.may_follow.ensures ∙ c.if-may_follow.true))
 
 pub blocked_by-requires-clause-room : goal.blocked_by-requires-clause-room
 blocked_by-requires-clause-room c = c.loop-step.invariant.room
@@ -60,7 +60,7 @@ loop-step-preserved c =
     let step = c.loop-step.step in
     let tested : c.may_follow.result ≡ (comes_between (kind_of_step p.rollout p.held step) && not (is_marked marks step)) =
     c.may_follow.ensures ∙ ap (λ (m : List Bool). comes_between (kind_of_step p.rollout p.held step) && not (is_marked m step))
-        (c.deref.ensures.value ∙ c.loop-step.invariant.done) in
+    (c.deref.ensures.value ∙ c.loop-step.invariant.done) in
     elim c.if-may_follow.branch [
       | then-may_follow+in_ok-push w ↦
           let pushed = ap (λ (v : Vec Blocked Global). v.items) w.blocked-is ∙ w.in_ok-push.ensures.items in
@@ -74,7 +74,7 @@ loop-step-preserved c =
                 (All-push (λ b. IsBarrier p.rollout p.held c.args.tested.now (set marks b.step true) b.by) c.loop-step.blocked.items w.blocked_by.result
                 c.loop-step.invariant.each
                 (subst (λ (k : ℕ). IsBarrier p.rollout p.held c.args.tested.now (set marks k true) w.blocked_by.result.by)
-                    (sym w.blocked_by.ensures.blocked.step_is)
+                (sym w.blocked_by.ensures.blocked.step_is)
                 (subst (λ (m : List Bool). IsBarrier p.rollout p.held c.args.tested.now (set m step true) w.blocked_by.result.by) c.loop-step.invariant.done
                 w.blocked_by.ensures.blocked.barrier)));
           }

@@ -15,6 +15,6 @@ invariant-loop-step l = record {
   done : l.state.done.items ≡ l.fn.state.done.items;
   steps : map (λ b. b.step) l.blocked.items ≡
       filter (λ k. comes_between (kind_of_step l.held_rollout.rollout l.held_rollout.held k) && not (is_marked l.fn.state.done.items k))
-          (numbers_from 0 l.step);
+      (numbers_from 0 l.step);
   each : All (λ b. IsBarrier l.held_rollout.rollout l.held_rollout.held l.tested (slice_set l.fn.state.done.items b.step true) b.by) l.blocked.items;
 }

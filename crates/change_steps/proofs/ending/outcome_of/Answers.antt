@@ -8,10 +8,10 @@ use Rattle.change_steps.proofs.ending.outcome_of.Goals as goal
 pub returns-in_ok-order_of-in-Complete : goal.returns-in_ok-order_of-in-Complete
 returns-in_ok-order_of-in-Complete c = λ nodes ended.
     complete_order c.args.held_rollout.now c.args.walk.now c.in_ok-order_of-in-Complete.field-0.items c.keeps_conditions.ensures.rollout
-        c.keeps_conditions.ensures.held
+    c.keeps_conditions.ensures.held
     (subst (λ (e : End). IsWalkEnded c.args.held_rollout.now nodes c.args.walk.now e) c.in-Complete.is ended)
     (c.in_ok-order_of-in-Complete.ensures ∙ ap (λ (xs : List ℕ). order_behind_first c.args.held_rollout.now xs ++ last_steps c.args.held_rollout.now)
-        c.deref.ensures.value)
+    c.deref.ensures.value)
 
 pub returns-in_ok-stuck_of-in-Exhausted : goal.returns-in_ok-stuck_of-in-Exhausted
 returns-in_ok-stuck_of-in-Exhausted c = λ nodes ended.

@@ -25,4 +25,4 @@ pub returns : goal.returns
 returns c =
     let here = (goal.at.returns c).In_ok-state in
     search_end c.args.held_rollout.now (position_of c.args.walk.now) c.in_ok-state.state.done.items _ c.requires.search (done_is here) (marks_are here)
-        c.in_ok-blocked.ensures.blocked
+    c.in_ok-blocked.ensures.blocked

@@ -9,5 +9,5 @@ pub returns : goal.returns
 returns c =
     steps_found c.new-rollout.result _ c.in_ok-held_rollout.held_rollout.held c.args.nodes _ c.new-rollout.ensures c.in_ok-held_rollout.ensures.held
     (subst (λ (r : Rollout). IsOutcome r c.in_ok-held_rollout.held_rollout.held c.args.nodes c.in_ok-outcome.outcome) c.in_ok-held_rollout.ensures.rollout
-        c.in_ok-outcome.ensures)
+    c.in_ok-outcome.ensures)
     c.into_held.ensures

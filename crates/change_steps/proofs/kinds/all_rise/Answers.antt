@@ -15,10 +15,10 @@ pub returns-then-not-variable_rises : goal.returns-then-not-variable_rises
 returns-then-not-variable_rises c = λ held are. elim c.then-not-variable_rises.branch [
   | then-not-variable_rises-via-then-not-variable_rises w ↦
       not_risen c.args.rollout.now held c.args.variables.now c.loop-variable.variable-index c.loop-variable-test.true
-          (sym c.variable_rises.ensures ∙ w.if-not-variable_rises.true)
+      (sym c.variable_rises.ensures ∙ w.if-not-variable_rises.true)
   | then-not-variable_rises-via-else-not-variable_rises+then-marks-variable w ↦
       not_off c.args.rollout.now held c.args.marks.now c.args.variables.now c.loop-variable.variable-index (rises c.args.rollout.now.moves)
-          c.loop-variable-test.true
+      c.loop-variable-test.true
       (c.requires.known c.loop-variable.variable-index 0 c.loop-variable-test.true) are w.if-marks-variable.true
 ]
 
@@ -26,10 +26,10 @@ pub loop-variable-preserved : goal.loop-variable-preserved
 loop-variable-preserved c = λ held are.
     risen_more c.args.rollout.now held c.args.marks.now c.args.variables.now c.loop-variable.variable-index c.loop-variable-test.true
     (c.requires.known c.loop-variable.variable-index 0 c.loop-variable-test.true) are (sym c.variable_rises.ensures ∙ c.if-not-variable_rises.false)
-        c.if-marks-variable.false
+    c.if-marks-variable.false
     (c.loop-variable.invariant held are)
 
 pub returns : goal.returns
 returns c = λ held are.
     sym (c.loop-variable.invariant held are) ∙ ap (list_all (rises_off_held c.args.rollout.now held))
-        (take_all c.loop-variable.variable-index c.args.variables.now c.loop-variable-test.false)
+    (take_all c.loop-variable.variable-index c.args.variables.now c.loop-variable-test.false)

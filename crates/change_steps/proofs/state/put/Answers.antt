@@ -9,14 +9,14 @@ loop-variable-init c = record { count = refl; put = λ v. refl }
 pub set-requires : goal.set-requires
 set-requires c =
     let known = c.requires.known c.loop-variable.variable-index 0 c.loop-variable-test.true in let count = c.loop-variable.invariant.count in
-        omega (arith, known, count)
+    omega (arith, known, count)
 
 pub loop-variable-preserved : goal.loop-variable-preserved
 loop-variable-preserved c =
     put_more c.args.values.now c.loop-variable.values c.set.new.self c.args.variables.now c.args.costs.now c.loop-variable.variable-index
-        c.loop-variable-test.true
+    c.loop-variable-test.true
     (let known = c.requires.known c.loop-variable.variable-index 0 c.loop-variable-test.true in let count = c.loop-variable.invariant.count in
-        omega (arith, known, count))
+    omega (arith, known, count))
     c.loop-variable.invariant c.set.ensures
 
 pub returns-clause-count : goal.returns-clause-count

@@ -41,4 +41,4 @@ returns-clause-balances c = λ v.
     ∙ ap (λ (z : ℤ). c.loop-payment.terms.items ++ term_of c.loop-payment.balance.var z) (to_z-of_z w64 sum fits))
     ∙ c.loop-payment.invariant.balanced.told v
     ∙ ap (λ (ps : List Payment). balance_of ps v) (take_all c.loop-payment.payment-index c.args.payments.now
-        (let past = c.loop-payment-test.false in omega arith))
+    (let past = c.loop-payment-test.false in omega arith))

@@ -67,7 +67,7 @@ returns-in-Some-clause-first c =
     let entry = c.index-entries-line.result in
     let walks = walks_here (goal.at.returns-in-Some-clause-first c).After-index-entries-line in
     rw c.at.ensures (inl (walk_stops forms (c.args.boxes.now.present ∷ []) c.args.entries.now boxes.present boxes.behind c.loop-line.line entry _
-        (check_fault_number c.in-Some.fault) walks
+    (check_fault_number c.in-Some.fault) walks
     (subst (λ (box : CostBox). FirstOf (line_tests forms box entry) (check_fault_number c.in-Some.fault)) c.present.ensures.present c.in-Some.ensures.first)))
 
 pub returns-then-not-branch-clause-sound : goal.returns-then-not-branch-clause-sound

@@ -20,7 +20,7 @@ pub returns-in_ok-split_there-in-None-clause-next : goal.returns-in_ok-split_the
 returns-in_ok-split_there-in-None-clause-next g c = λ top old new since.
     let entry = c.in_ok-split_there-in-None.field-0 in
     next_split_at (g.S.FormSource.accepted c.args.source.now) top (g.S.FormSource.count c.args.source.now) new
-        (record { box = c.args.costs.now; since = since })
+    (record { box = c.args.costs.now; since = since })
     c.args.desk.now.point entry c.requires.ranges.is_box c.requires.least.least
     (subst (λ (p : Point). IsSplitAt c.args.costs.now p entry) c.costs_there.ensures.point c.in_ok-split_there-in-None.ensures.split)
 

@@ -15,9 +15,9 @@ returns-then-is_one_point-clause-next g c =
     let place = first_place c.args.tree.now.places in
     let IsHere = IsNextStep (g.S.FormSource.accepted c.args.source.now) c.args.desk.now.top c.args.pool.now c.at_one_point.new.pool in
     let here : (next : Next) → IsNextOfPoint (g.S.FormSource.accepted c.args.source.now) c.args.pool.now c.at_one_point.new.pool c.costs-costs.result.now next →
-        IsHere place next =
+    IsHere place next =
     λ next is. subst (λ (box : CostBox). IsHere (record { box = box; since = place.since }) next) (c.costs-costs.ensures c.requires.open)
-        (is.step c.args.desk.now.top place.since) in
+    (is.step c.args.desk.now.top place.since) in
     IfOk-weaker _ _ _ here c.at_one_point.ensures.next
 
 pub returns-then-is_one_point-clause-desk : goal.returns-then-is_one_point-clause-desk
@@ -54,7 +54,7 @@ returns-in-Some-clause-asked g c =
 pub returns-then-is_one_point-clause-asked : goal.returns-then-is_one_point-clause-asked
 returns-then-is_one_point-clause-asked g c =
     let unsplit : (next : Next) → IsNextOfPoint (g.S.FormSource.accepted c.args.source.now) c.args.pool.now c.at_one_point.new.pool c.costs-costs.result.now
-        next → IsUnsplit next =
+    next → IsUnsplit next =
     λ next is. is.unsplit in
     unsplit_ready _ _ _ c.at_one_point.result _ _ (IfOk-weaker _ _ _ unsplit c.at_one_point.ensures.next) refl
 

@@ -19,7 +19,7 @@ returns-in_ok-low_costs-in-Nothing-clause-next g c =
     let box = c.args.costs.now in
     let low = box.low in
     let answer = subst (λ (asked : Asked). IsSourceAnswer Accepted c.put_costs.new.point c.args.pool.now c.ask.new.pool asked) c.in-Nothing.is
-        c.in_ok-ask.ensures.answer in
+    c.in_ok-ask.ensures.answer in
     let taken : Accepted (at_costs low) = subst Accepted c.put_costs.ensures answer.0 in
     let inside = one_inside box c.requires.one in
     subst (λ (w : List ℕ). IsNextOfPoint Accepted c.args.pool.now c.ask.new.pool box (Costs w)) (sym c.in_ok-low_costs-in-Nothing.ensures) (record {

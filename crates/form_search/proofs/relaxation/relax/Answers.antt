@@ -35,7 +35,7 @@ returns-in_err-table-clause-places g c = refl
 pub returns-in_err-table-clause-left : goal.returns-in_err-table-clause-left
 returns-in_err-table-clause-left g c =
     leaves_failed g.S.FormSource c.args.source.now c.args.pool.now c.take_tableau.new.self c.from_residual.result c.from_residual.ensures.0
-        c.take_tableau.ensures.forms
+    c.take_tableau.ensures.forms
 
 pub relax_with-requires-clause-in_step : goal.relax_with-requires-clause-in_step
 relax_with-requires-clause-in_step g c =

@@ -177,7 +177,7 @@ returns-in-Break-clause-advisors g c =
       tree = c.boxes.tree;
       is_tree = tree_found (IsLeastPoint (Accepted c.args.source.now)) c.args.limits.now.nodes c.boxes.tree c.in_ok-next.next c.in-Break.found
           (there_if_costs (Accepted c.args.source.now) c.boxes.desk.top c.boxes.pool c.next_at.new.pool (first_place c.boxes.tree.places) c.in_ok-next.next
-              step)
+          step)
           (sym c.in-Break.is ∙ c.in_ok-longer.ensures.outcome);
       calls =
           calls_end _ _ _ c.args.costs.now c.boxes.tree c.in_ok-next.next c.in_ok-longer.field-0 c.in-Break.found _ _ _ _

@@ -99,7 +99,7 @@ columns-preserved-then-column-next_column c =
     let ahead : column < head_column quotients c.args.extent.width = subst (λ (n : ℕ). column < n) c.next_column.ensures c.if-column-next_column.true in
     let head_is = head_number c.args.extent.top olds column (nothing_number c.args.extent.top c.args.factor c.requires.factor) c.columns.invariant.olds in
     let old_is : IsTableNumber c.args.extent.top c.take_at-old.result.0 = subst (IsTableNumber c.args.extent.top) (sym c.take_at-old.ensures.fraction) head_is
-        in
+    in
     let value_is = c.take_at-old.ensures.fraction
     ∙ copied (head_fraction olds column) c.args.factor (head_fraction quotients column) head_is.lowest
     c.requires.factor.lowest.positive (ahead_nothing quotients column c.args.extent.width ahead) in

@@ -17,7 +17,7 @@ keeps left_out divisor k =
 pub returns-then-width-column-clause-made : goal.returns-then-width-column-clause-made
 returns-then-width-column-clause-made c =
     let ended : c.args.extent.width ≡ min (head_column c.columns.left.now c.args.extent.width) c.args.extent.width = omega (arith, c.next_column-column.ensures)
-        in
+    in
     crossing_ends c.args.extent.width (divided_at c.args.left_out c.args.divisor) c.args.olds.now [] c.columns.left.now [] c.columns.made.items
     c.args.extent.width (keeps c.args.left_out c.args.divisor) c.columns.invariant.crossing ended (omega arith)
 

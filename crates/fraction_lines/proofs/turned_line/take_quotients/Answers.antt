@@ -19,7 +19,7 @@ use Rattle.fraction_lines.proofs.turned_line.take_quotients.Goals as goal
 pub divide-requires-clause-divisor : goal.divide-requires-clause-divisor
 divide-requires-clause-divisor c =
     subst (IsTableNumber c.args.top) (sym c.entry-divisor.ensures) (number_at c.args.top c.args.line.now (suc c.args.column) c.requires.numbers
-        c.requires.column)
+    c.requires.column)
 
 pub divide-requires-clause-not_zero : goal.divide-requires-clause-not_zero
 divide-requires-clause-not_zero c zero_is = c.requires.not_zero (ap (λ (q : Fraction). q.numerator) (sym c.entry-divisor.ensures) ∙ zero_is)

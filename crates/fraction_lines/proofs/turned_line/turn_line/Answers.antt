@@ -48,7 +48,7 @@ returns-in_err-entered-clause-wide c =
     rw (p.1, p.2) (
       subst (λ (w : Wide). IsTurnStep fs ts (suc c.args.pivot.now.column) c.args.pivot.now.inverse w.step w.left w.right) (sym refused.named)
           (subst (λ (q : Fraction). IsTurnStep fs ts (suc c.args.pivot.now.column) c.args.pivot.now.inverse Mul q c.args.pivot.now.inverse)
-              (sym c.entry-own.ensures) entering),
+          (sym c.entry-own.ensures) entering),
       named_passes {X = Fraction} (Err wide) c.args.top Mul c.entry-own.result c.args.pivot.now.inverse refused,
     )
 

@@ -36,7 +36,7 @@ loop-line-preserved c =
       turned =
           ap (λ (r : List Fraction). slice_set c.loop-line.lines i r) c.in_ok-turn_line.ensures.turned
           ∙ ap (λ (r : List Fraction). slice_set c.loop-line.lines i (turned_by r c.args.quotients.now (suc c.args.pivot.now.column) c.args.pivot.now.inverse))
-              (sym c.line-item.is)
+          (sym c.line-item.is)
           ∙ map_over_more (λ fs. turned_by fs c.args.quotients.now (suc c.args.pivot.now.column) c.args.pivot.now.inverse) c.args.lines.now
           c.loop-line.lines i c.line-item.result c.loop-line-test.true c.loop-line.invariant.turned c.line-item.is;
       numbers =
@@ -54,7 +54,7 @@ returns-in_err-turn_line-clause-wide c =
     let wide = c.in_err-turn_line.field-0.0 in
     let same =
     later_same (λ fs. turned_by fs c.args.quotients.now (suc c.args.pivot.now.column) c.args.pivot.now.inverse) c.args.lines.now c.loop-line.lines i d
-        c.loop-line.invariant.turned
+    c.loop-line.invariant.turned
     ∙ get_or_default c.args.lines.now i d [] c.loop-line-test.true in
     rw (p.1, p.2)
     (record {

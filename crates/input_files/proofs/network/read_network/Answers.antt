@@ -13,7 +13,7 @@ pub returns-in_err-request_file-clause-read : goal.returns-in_err-request_file-c
 returns-in_err-request_file-clause-read g c =
     let p = err_from_is_err_and c.from_residual.result c.from_residual.ensures.1 in
     rw (p.1, p.2) (request_stops (g.S.Shelf.gave c.args.shelf.now c.read_request.new.shelf) c.args.view (files_named c.args.words) _
-        c.in_err-request_file.ensures)
+    c.in_err-request_file.ensures)
 
 pub returns-in_err-configs-clause-read : goal.returns-in_err-configs-clause-read
 returns-in_err-configs-clause-read g c =

@@ -73,9 +73,9 @@ loop-column-preserved c =
     let now = c.as_slice.result.now in
     c.set.ensures
     ∙ ap (λ (xs : List ℤ). slice_set xs i (read (read (number_at now i) +ℤ read (read c.args.factor *ℤ read (number_at c.as_slice-line.result.now i)))))
-        (sym c.as_slice.ensures)
+    (sym c.as_slice.ensures)
     ∙ ap (λ (z : ℤ). slice_set now i (read (read (number_at now i) +ℤ read (read c.args.factor *ℤ read z))))
-        (here (goal.at.loop-column-preserved c).In-loop-column)
+    (here (goal.at.loop-column-preserved c).In-loop-column)
     ∙ (step (goal.at.loop-column-preserved c).After-as_slice).1
     ∙ sym (partly_passed (i + 1) (next.result - (i + 1)) c.args.sums.now (read c.args.factor) c.args.numbers.now
     (λ k from before. passed k from (omega (arith, before, next.ensures.from))))

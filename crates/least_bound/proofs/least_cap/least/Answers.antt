@@ -66,8 +66,12 @@ narrowed-requires-in-Undecided-clause-so_far g c =
     let found : IsDecided p limits.top limits.nodes c.greatest_of-cap.result c.decide.new.pool (Undecided c.in-Undecided.tree) =
     subst (λ (f : Found). IsDecided p limits.top limits.nodes c.greatest_of-cap.result c.decide.new.pool f) c.in-Undecided.is c.in_ok-tree.ensures.decided in
     let same : c.greatest_of-cap.result ≤ c.greatest_of-cap.result = omega arith in
-    c.start-so_far-in-Undecided.ensures.holds limits.top limits.nodes c.decide.new.pool (cap_is, same, record
-        { tree = found.0; undone = found.1; used_up = found.2 })
+    c.start-so_far-in-Undecided.ensures.holds limits.top limits.nodes c.decide.new.pool (
+      cap_is,
+      same,
+      record
+          { tree = found.0; undone = found.1; used_up = found.2 },
+    )
 
 pub returns-in-Costs-clause-advisors : goal.returns-in-Costs-clause-advisors
 returns-in-Costs-clause-advisors g c = left_then _ _ _ _ c.decide.ensures.advisors c.narrowed.ensures.advisors

@@ -12,7 +12,7 @@ pub gathered-requires : goal.gathered-requires
 gathered-requires c =
     let sheet = c.in_ok-rows.ensures in
     undecided_front c.args.pool.rows c.in_ok-rows.field-0.rows.items c.args.named.trees.items sheet.new_trees c.in_ok-rows.field-0.trees.items
-        c.args.undecided.tree
+    c.args.undecided.tree
     sheet.printed sheet.rest ∙ c.requires.counted
 
 pub returns : goal.returns

@@ -34,5 +34,5 @@ returns c =
     let named = c.in_ok-named.named in
     IfOk-weaker c.undecided_cores.result (IsUndecidedPrinted c.args.pool.rows named c.args.undecided) (IsUndecidedEvidenceTold q c.args.undecided)
     (undecided_evidence_told q c.args.pool c.args.known.sets.items c.args.known.trees.items c.args.known.cover named c.args.undecided
-        c.keeps_conditions.ensures.problem.problem
+    c.keeps_conditions.ensures.problem.problem
     c.keeps_conditions.ensures.present c.requires.pool c.requires.known c.in_ok-named.ensures c.requires.undecided) c.undecided_cores.ensures

@@ -67,7 +67,7 @@ returns-in-Undecided-clause-asked g c =
     let found : IsSetDecided p limits.top limits.nodes all (Undecided t) =
     subst (λ (d : Decided). IsSetDecided p limits.top limits.nodes all d) c.in-Undecided.is c.in_ok-costs.ensures.decided in
     let first = asked_as _ _ _ _ _ p limits.top limits.nodes all t.members.items _ (Undecided t) _ _ (sym found.0) c.in-Undecided.is c.in_ok-costs.ensures.asked
-        in
+    in
     IfOk-weaker c.undecided.result _ _ (λ end told. (
       decision_of t.members.items first.0 (Undecided t) ∷ [],
       (found.0 ∙ c.in_ok-all.ensures, (refl, told)),

@@ -32,7 +32,7 @@ loop-shrunk-init g c =
 pub returns-in_err-next-clause-advisors : goal.returns-in_err-next-clause-advisors
 returns-in_err-next-clause-advisors g c =
     left_then _ _ _ _ (called_of_sets _ _ _ _ _ c.args.problem.now c.args.limits.now.top c.args.limits.now.nodes c.loop-shrunk.invariant.asked.0 _ _
-        c.loop-shrunk.invariant.asked.2) c.leave_out.ensures.advisors
+    c.loop-shrunk.invariant.asked.2) c.leave_out.ensures.advisors
 
 pub loop-shrunk-preserved : goal.loop-shrunk-preserved
 loop-shrunk-preserved g c =
@@ -66,12 +66,12 @@ returns-in-Undecided-clause-found g c =
 pub returns-in-Undecided-clause-advisors : goal.returns-in-Undecided-clause-advisors
 returns-in-Undecided-clause-advisors g c =
     left_then _ _ _ _ (called_of_sets _ _ _ _ _ c.args.problem.now c.args.limits.now.top c.args.limits.now.nodes c.loop-shrunk.invariant.asked.0 _ _
-        c.loop-shrunk.invariant.asked.2) c.leave_out.ensures.advisors
+    c.loop-shrunk.invariant.asked.2) c.leave_out.ensures.advisors
 
 pub returns-clause-advisors : goal.returns-clause-advisors
 returns-clause-advisors g c =
     left_then _ _ _ _ (called_of_sets _ _ _ _ _ c.args.problem.now c.args.limits.now.top c.args.limits.now.nodes c.loop-shrunk.invariant.asked.0 _ _
-        c.loop-shrunk.invariant.asked.2) c.finish.ensures.advisors
+    c.loop-shrunk.invariant.asked.2) c.finish.ensures.advisors
 
 pub returns-in-Undecided-clause-asked : goal.returns-in-Undecided-clause-asked
 returns-in-Undecided-clause-asked g c =

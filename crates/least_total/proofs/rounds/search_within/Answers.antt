@@ -14,7 +14,7 @@ returns g c =
     let pool = c.search.new.pool in
     let same_problem = c.into_parts-rows.ensures.problem ∙ sym c.requires.problem in
     let possible_forms = c.search.ensures.left.same.same_possible_forms ∙
-        ap (λ (s : BoundedRows). possible_forms_within s.known.problem s.most) c.new-source.ensures in
+    ap (λ (s : BoundedRows). possible_forms_within s.known.problem s.most) c.new-source.ensures in
     let found = subst (λ (s : BoundedRows).
     IsSearchResult (LeadsWithin s.known.problem s.most) limits.top limits.nodes pool c.args.costs.now
     c.in_ok-found.found) c.new-source.ensures c.in_ok-found.ensures.found in

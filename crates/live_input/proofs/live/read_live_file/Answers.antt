@@ -34,4 +34,4 @@ returns g c =
     (λ read same. places_parsed live_fault_number c.args.name (live_in area read) c.read_live.result
     (live_told area read c.read_live.result
     (subst (λ (bs : List ℕ). MatchResult c.read_live.result (λ lsas. LiveComesTo area bs (Ok lsas)) (RefusesLive area bs)) (c.deref.ensures.value ∙ same)
-        c.read_live.ensures)))
+    c.read_live.ensures)))

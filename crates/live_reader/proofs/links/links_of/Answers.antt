@@ -15,15 +15,15 @@ returns-in_err-link c =
     let p = err_from_is_err_and c.from_residual.result c.from_residual.ensures.1 in
     rw (p.1, p.2) (λ said stand. each_tell option_to_list (link_read c.args.around) c.args.tape.now _ _ c.loop-place.links.items said _
     (each_at option_to_list (link_read c.args.around) c.args.tape.now c.loop-place.place-index 0 c.args.places.now c.loop-place.links.items said
-        c.loop-place-test.true (c.loop-place.invariant said stand))
+    c.loop-place-test.true (c.loop-place.invariant said stand))
     c.in_err-link.ensures)
 
 pub loop-place-preserved : goal.loop-place-preserved
 loop-place-preserved c said stand =
     each_go_on option_to_list (link_read c.args.around) c.args.tape.now (get_or c.args.places.now c.loop-place.place-index 0) _ c.loop-place.links.items
-        c.push_some.new.things.items c.in_ok-link.link said
+    c.push_some.new.things.items c.in_ok-link.link said
     (each_at option_to_list (link_read c.args.around) c.args.tape.now c.loop-place.place-index 0 c.args.places.now c.loop-place.links.items said
-        c.loop-place-test.true (c.loop-place.invariant said stand))
+    c.loop-place-test.true (c.loop-place.invariant said stand))
     c.in_ok-link.ensures c.in_ok-push_some.ensures.added
 
 pub returns : goal.returns

@@ -12,7 +12,7 @@ returns-in_default-area_place c j stands =
     let i = inner_there c.args.tape.now (codes "areas") c.args.around c.in-Some.areas j stands (c.in-Some.ensures j stands) in
     rw c.at-in_default-area_place.ensures (ap (areas_read c.args.area c.args.around) i.is
     ∙ ap (area_lsas_read c.args.around c.in-Some.areas) (none_among (area_member c.args.area (members_at (c.in-Some.areas + 1) i.members))
-        (c.in_default-area_place.ensures i.members i.stands)))
+    (c.in_default-area_place.ensures i.members i.stands)))
 
 pub returns-in_err-lsas : goal.returns-in_err-lsas
 returns-in_err-lsas c =
@@ -20,7 +20,7 @@ returns-in_err-lsas c =
     rw (p.1, p.2) (λ j stands.
     let i = inner_there c.args.tape.now (codes "areas") c.args.around c.in-Some.areas j stands (c.in-Some.ensures j stands) in
     let a = area_there c.args.tape.now c.args.area c.in-Some.areas c.in-Some-area_place.found i.members _ i.stands refl
-        (c.in-Some-area_place.ensures i.members i.stands) in
+    (c.in-Some-area_place.ensures i.members i.stands) in
     tells_same _ _ _ (ap (areas_read c.args.area c.args.around) i.is ∙ ap (area_lsas_read c.args.around c.in-Some.areas) a.2)
     (c.in_err-lsas.ensures a.0 a.1))
 
@@ -28,5 +28,5 @@ pub returns : goal.returns
 returns c j stands =
     let i = inner_there c.args.tape.now (codes "areas") c.args.around c.in-Some.areas j stands (c.in-Some.ensures j stands) in
     let a = area_there c.args.tape.now c.args.area c.in-Some.areas c.in-Some-area_place.found i.members _ i.stands refl
-        (c.in-Some-area_place.ensures i.members i.stands) in
+    (c.in-Some-area_place.ensures i.members i.stands) in
     ap (areas_read c.args.area c.args.around) i.is ∙ ap (area_lsas_read c.args.around c.in-Some.areas) a.2 ∙ c.in_ok-lsas.ensures a.0 a.1

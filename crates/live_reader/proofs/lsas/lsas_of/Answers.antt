@@ -14,15 +14,15 @@ returns-in_err-lsa c =
     let p = err_from_is_err_and c.from_residual.result c.from_residual.ensures.1 in
     rw (p.1, p.2) (λ said stand. each_tell (λ lsa. lsa ∷ []) (lsa_read c.args.around) c.args.tape.now _ _ c.loop-place.lsas.items said _
     (each_at (λ lsa. lsa ∷ []) (lsa_read c.args.around) c.args.tape.now c.loop-place.place-index 0 c.args.places.now c.loop-place.lsas.items said
-        c.loop-place-test.true (c.loop-place.invariant said stand))
+    c.loop-place-test.true (c.loop-place.invariant said stand))
     c.in_err-lsa.ensures)
 
 pub loop-place-preserved : goal.loop-place-preserved
 loop-place-preserved c said stand =
     each_go_on (λ lsa. lsa ∷ []) (lsa_read c.args.around) c.args.tape.now (get_or c.args.places.now c.loop-place.place-index 0) _ c.loop-place.lsas.items
-        c.push.new.self.items c.in_ok-lsa.lsa said
+    c.push.new.self.items c.in_ok-lsa.lsa said
     (each_at (λ lsa. lsa ∷ []) (lsa_read c.args.around) c.args.tape.now c.loop-place.place-index 0 c.args.places.now c.loop-place.lsas.items said
-        c.loop-place-test.true (c.loop-place.invariant said stand))
+    c.loop-place-test.true (c.loop-place.invariant said stand))
     c.in_ok-lsa.ensures c.in_ok-push.ensures.items
 
 pub returns : goal.returns

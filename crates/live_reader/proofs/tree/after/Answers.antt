@@ -14,22 +14,22 @@ pub returns-in-Object-clause-value : goal.returns-in-Object-clause-value
 returns-in-Object-clause-value c j stands =
     link_end c.args.tape.now c.args.place c.in-Object.end j
     (linked_passes c.nodes.result.now c.args.tape.now c.args.place c.in-Object.end c.nodes.ensures.tokens c.nodes.ensures.links c.requires c.in-Object.is)
-        stands
+    stands
 
 pub returns-in-Object-clause-later : goal.returns-in-Object-clause-later
 returns-in-Object-clause-later c =
     let passes = linked_passes c.nodes.result.now c.args.tape.now c.args.place c.in-Object.end c.nodes.ensures.tokens c.nodes.ensures.links c.requires
-        c.in-Object.is in
+    c.in-Object.is in
     (passes.2, passes.3)
 
 pub returns-in-Object-2-clause-value : goal.returns-in-Object-2-clause-value
 returns-in-Object-2-clause-value c j stands =
     link_end c.args.tape.now c.args.place c.in-Object.end j
     (linked_passes c.nodes.result.now c.args.tape.now c.args.place c.in-Object.end c.nodes.ensures.tokens c.nodes.ensures.links c.requires c.in-Object.is)
-        stands
+    stands
 
 pub returns-in-Object-2-clause-later : goal.returns-in-Object-2-clause-later
 returns-in-Object-2-clause-later c =
     let passes = linked_passes c.nodes.result.now c.args.tape.now c.args.place c.in-Object.end c.nodes.ensures.tokens c.nodes.ensures.links c.requires
-        c.in-Object.is in
+    c.in-Object.is in
     (passes.2, passes.3)

@@ -24,7 +24,7 @@ pub returns-in_err-quad : goal.returns-in_err-quad
 returns-in_err-quad c ms stands =
     c.from_residual-in_err-quad.ensures ∙ sym (ap (option_map (option_map (λ m. m.place)))
     (walk_breaks_area c.args.tape.now c.args.area (c.args.place + 1) c.loop-step.next ms c.in-Some.step _ (c.loop-step.invariant ms stands)
-        c.in-Some.ensures.member
+    c.in-Some.ensures.member
     (ap quad (sym c.as_bytes.ensures.value) ∙ sym c.in_err-quad.ensures)))
 
 pub loop-step-preserved-then-branch-area : goal.loop-step-preserved-then-branch-area

@@ -11,7 +11,7 @@ pub put_front-requires : goal.put_front-requires
 put_front-requires c =
     let ends = request_ends c.args.outlook.now.request.now in
     let short = simple-short c.args.outlook.now.graph.now ends.start c.args.outlook.now.request.now.path.edges ends.end c.keeps_conditions.ensures.fits
-        c.requires.path.simple in
+    c.requires.path.simple in
     let within = c.requires.best.0.within in
     let front = take_short c.args.best.place c.as_slice.result.now in
     let count = c.requires.found.found.room_for.vertices in

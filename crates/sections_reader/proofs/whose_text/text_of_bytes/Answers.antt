@@ -7,7 +7,7 @@ pub returns-in-Some : goal.returns-in-Some
 returns-in-Some c =
     let bytes = c.args.bytes.now in
     c.text_by_head.ensures ∙ sym (head-first bytes c.in-Some.line.now _ c.in-Some.ensures.parts
-        (split-whole 10 bytes c.in-Some.line.now _ c.in-Some.ensures.pieces))
+    (split-whole 10 bytes c.in-Some.line.now _ c.in-Some.ensures.pieces))
 
 pub returns-in-None : goal.returns-in-None
 returns-in-None c =

@@ -56,4 +56,4 @@ returns c =
     c.loop-number.number-index (edges_out g (place_vertex g ends c.args.costed.now.tree.now c.args.place))
     c.edges_out-number-items.result.now
     c.loop-number.found (c.edges_out-number-items.ensures ∙ ap (λ (v : ℕ). edges_out g v) c.vertex_of-vertex.ensures) c.loop-number-test.false
-        c.loop-number.invariant
+    c.loop-number.invariant

@@ -14,7 +14,7 @@ all_above : (c : After-put_place_costs) (wanted : List (List ℕ)) →
     ((place e total : ℕ) →
     DeviatesFromTree c.args.outlook.now.graph.now c.args.outlook.now.point.now (request_ends c.args.outlook.now.request.now) c.args.room.now c.args.tree.now
     c.put_place_costs.new.costs place e total → cost c.args.outlook.now.graph.now c.args.outlook.now.point.now c.args.outlook.now.request.now.path.edges +
-        c.args.outlook.now.point.now.scale ≤ total) →
+    c.args.outlook.now.point.now.scale ≤ total) →
     CostAtLeast c.args.outlook.now.graph.now c.args.outlook.now.point.now (request_ends c.args.outlook.now.request.now) wanted
     (cost c.args.outlook.now.graph.now c.args.outlook.now.point.now c.args.outlook.now.request.now.path.edges + c.args.outlook.now.point.now.scale)
 all_above c wanted tied above =

@@ -18,7 +18,7 @@ loop-entry-init c =
     let m = length c.args.front.now.settled.items in
     let alone : IsPermutation (entry_of 0 t ∷ []) c.push.new.self.entries =
     subst (λ (xs : List WaitingVertex). IsPermutation (entry_of 0 t ∷ xs) c.push.new.self.entries) (ap (λ w. w.entries) c.clear.ensures) c.push.ensures.entries
-        in
+    in
     let within : t < n = let target = c.requires.target in let count = c.requires.front.count in omega arith in
     record {
       front = subst (λ (d : List ℕ). AreSearchNumbers g p (set d t 0) c.fill-2.new.self.items) (sym numbers)

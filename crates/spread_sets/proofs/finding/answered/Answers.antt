@@ -53,7 +53,7 @@ returns-in_ok-rows-in-Refuted c = λ sets are distinct sought.
     let found = found_as p sets limits.top limits.nodes c.args.sought (Refuted c.in-Refuted.tree) c.in-Refuted.is sought in
     shown_closed p sets limits.top limits.nodes c.args.sought.rows.items sheet.rows.items c.in-Refuted.tree sheet.tree
     (can (goal.at.returns-in_ok-rows-in-Refuted c).After-keeps_problem_on_graph sets are) sought.true_rows (sought.once distinct) found.0 found.2 found.1
-        c.in_ok-rows-in-Refuted.ensures
+    c.in_ok-rows-in-Refuted.ensures
 
 pub returns-in_ok-rows-in-Undecided : goal.returns-in_ok-rows-in-Undecided
 returns-in_ok-rows-in-Undecided c = λ sets are distinct sought.
@@ -63,4 +63,4 @@ returns-in_ok-rows-in-Undecided c = λ sets are distinct sought.
     let found = found_as p sets limits.top limits.nodes c.args.sought (Undecided c.in-Undecided.tree) c.in-Undecided.is sought in
     shown_used_up p sets limits.top limits.nodes c.args.sought.rows.items sheet.rows.items c.in-Undecided.tree sheet.tree
     (can (goal.at.returns-in_ok-rows-in-Undecided c).After-keeps_problem_on_graph sets are) sought.true_rows (sought.once distinct) found.0 found.1 found.2
-        c.in_ok-rows-in-Undecided.ensures
+    c.in_ok-rows-in-Undecided.ensures

@@ -90,7 +90,7 @@ returns-clause-rows c row row_in =
     ap (λ (n : ℕ). number_at c.loop-row.constants (n + n + row)) (ap length (sym c.as_slice-width.ensures))
     ∙ c.loop-row.invariant.rows row (omega (arith, row_in, c.loop-row-test.false))
     ∙ ap (λ (z : ℤ). row_constant_of z c.args.costs.now.low c.args.constants.now (slice_index_or c.args.rows.now row no_form))
-        (read_common c.args.common c.requires.common)
+    (read_common c.args.common c.requires.common)
 
 pub returns-clause-small : goal.returns-clause-small
 returns-clause-small c = c.loop-row.invariant.small

@@ -10,7 +10,7 @@ returns-in_err-common c =
     let fractions = c.args.fractions.now in
     match_none c.from_residual.result _ c.from_residual.ensures
     (none_small fractions _ (more_goes_in fractions 0 1 c.constant.result (omega (arith, c.requires.width)) c.constant.ensures (one_goes_in fractions))
-        c.in_err-common.ensures)
+    c.in_err-common.ensures)
 
 pub returns-in_err-common-2 : goal.returns-in_err-common-2
 returns-in_err-common-2 c =

@@ -22,7 +22,7 @@ number_over-requires-clause-whole c =
 pub returns-in_default-number_over-clause-refused : goal.returns-in_default-number_over-clause-refused
 returns-in_default-number_over-clause-refused c =
     constant_refused c.args.fractions.now (read c.in-Some.denominator) c.constant.result (least
-        (goal.at.returns-in_default-number_over-clause-refused c).In-Some)
+    (goal.at.returns-in_default-number_over-clause-refused c).In-Some)
     c.constant.ensures c.in_default-number_over.ensures
 
 pub read_numbers-requires-clause-whole : goal.read_numbers-requires-clause-whole

@@ -38,5 +38,5 @@ returns-in_default-clause-refused c = (
   omega (arith, c.loop-column-test.true, ap length c.as_slice-column-end.ensures),
   subst (λ (q : Fraction). 2 ^ 30 < nat_abs (over_denominator (nat_abs c.args.denominator) q)) c.entry.ensures
       (subst (λ (z : ℤ). 2 ^ 30 < nat_abs (over_denominator (nat_abs z) c.entry.result)) (to_z-of_z w64 c.args.denominator c.ranges.denominator)
-          c.in_default.ensures),
+      c.in_default.ensures),
 )

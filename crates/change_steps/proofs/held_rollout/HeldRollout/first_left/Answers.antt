@@ -11,7 +11,7 @@ pub returns-then-may_follow : goal.returns-then-may_follow
 returns-then-may_follow c =
     follows_by c.args.self.now.rollout c.args.self.now.held c.args.done.now c.loop-step.step
     (let below = c.loop-step-test.true in let count = c.step_count-step-end.ensures in omega (arith, below, count))
-        (sym c.may_follow.ensures ∙ c.if-may_follow.true)
+    (sym c.may_follow.ensures ∙ c.if-may_follow.true)
 
 pub returns : goal.returns
 returns c = λ k follows. c.loop-step.invariant k

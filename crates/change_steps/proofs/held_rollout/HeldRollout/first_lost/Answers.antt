@@ -12,19 +12,19 @@ use Rattle.change_steps.proofs.held_rollout.HeldRollout.first_lost.Goals as goal
 pub returns-then-not-is_only-clause-lost : goal.returns-then-not-is_only-clause-lost
 returns-then-not-is_only-clause-lost c =
     subst (λ (xs : List ℕ). IsFirstLost c.args.self.now.rollout xs (is_marked c.args.state.now.done.items)
-        (get_or c.held-number-items.result.now c.loop-number.number-index 0))
+    (get_or c.held-number-items.result.now c.loop-number.number-index 0))
     c.held-number-items.ensures
     (lost_at c.args.self.now.rollout c.held-number-items.result.now (is_marked c.args.state.now.done.items) c.loop-number.number-index c.loop-number-test.true
     c.loop-number.invariant.safe (λ only. both_ways c.is_only.result c.if-not-is_only.true
-        (c.is_only.ensures.only.1 (subst (λ (r : Rollout). IsOnlyIn r (is_marked c.args.state.now.done.items)
-        (get_or c.held-number-items.result.now c.loop-number.number-index 0)) (sym c.rollout.ensures) only))))
+    (c.is_only.ensures.only.1 (subst (λ (r : Rollout). IsOnlyIn r (is_marked c.args.state.now.done.items)
+    (get_or c.held-number-items.result.now c.loop-number.number-index 0)) (sym c.rollout.ensures) only))))
 
 pub loop-number-preserved : goal.loop-number-preserved
 loop-number-preserved c = record {
   room = subst (λ (r : Rollout). IsRoomFor r.graph c.is_only.new.room) c.rollout.ensures c.is_only.ensures.room;
   safe = All-more (IsOnlyIn c.args.self.now.rollout (is_marked c.args.state.now.done.items)) c.held-number-items.result.now c.loop-number.number-index 0
       c.loop-number-test.true c.loop-number.invariant.safe (subst (λ (r : Rollout). IsOnlyIn r (is_marked c.args.state.now.done.items)
-          (get_or c.held-number-items.result.now c.loop-number.number-index 0)) c.rollout.ensures (c.is_only.ensures.only.0 c.if-not-is_only.false));
+      (get_or c.held-number-items.result.now c.loop-number.number-index 0)) c.rollout.ensures (c.is_only.ensures.only.0 c.if-not-is_only.false));
 }
 
 pub returns-clause-lost : goal.returns-clause-lost

@@ -14,7 +14,7 @@ loop-number-preserved c = elim c.else-not-spares.branch [
         (subst (λ (r : Rollout). IsRoomFor r.graph w.is_only.new.room) w.rollout.ensures w.is_only.ensures.room);
     safe = All-more (IsOnlyIn c.args.self.now.rollout (is_marked c.args.state.now.done.items)) c.held-number-items.result.now c.loop-number.number-index 0
         c.loop-number-test.true c.loop-number.invariant.safe (subst (λ (r : Rollout). IsOnlyIn r (is_marked c.args.state.now.done.items)
-            (get_or c.held-number-items.result.now c.loop-number.number-index 0)) w.rollout.ensures (w.is_only.ensures.only.0 w.if-not-is_only.false));
+        (get_or c.held-number-items.result.now c.loop-number.number-index 0)) w.rollout.ensures (w.is_only.ensures.only.0 w.if-not-is_only.false));
   }
   | else-not-spares-via-else-not-spares w ↦ record {
     room = subst (λ (f : Findings). IsRoomFor c.args.self.now.rollout.graph f) (sym w.room-is) c.loop-number.invariant.room;
@@ -22,7 +22,7 @@ loop-number-preserved c = elim c.else-not-spares.branch [
         c.loop-number-test.true c.loop-number.invariant.safe
         (c.spares.ensures w.if-not-spares.false c.requires.before.0 c.requires.before.1
         (subst (λ (xs : List ℕ). All (IsOnlyIn c.args.self.now.rollout c.requires.before.0) xs) (sym c.held-number-items.ensures) c.requires.before.2
-            c.loop-number.number-index 0 c.loop-number-test.true));
+        c.loop-number.number-index 0 c.loop-number-test.true));
   }
 ]
 

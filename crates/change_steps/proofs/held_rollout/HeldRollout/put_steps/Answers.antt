@@ -20,5 +20,5 @@ pub returns : goal.returns
 returns c =
     c.loop-step.invariant
     ∙ ap (λ (n : ℕ). c.args.steps.now.items ++ filter (λ k. has_kind c.args.kind (kind_of_step c.args.self.now.rollout c.args.self.now.held k))
-        (numbers_from 0 n))
+    (numbers_from 0 n))
     (let past = c.loop-step-test.false in let most = c.loop-step.auto.step-end in let count = c.step_count-step-end.ensures in omega (arith, past, most, count))

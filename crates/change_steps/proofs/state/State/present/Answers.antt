@@ -16,4 +16,4 @@ returns-clause-state c = record {
 pub returns-clause-none : goal.returns-clause-none
 returns-clause-none c =
     marks_same c.args.rollout.now none_done c.in_ok-done.done.items (c.in_ok-done.ensures.counted ∙ c.step_count.ensures)
-        (λ k within. c.in_ok-done.ensures.none k)
+    (λ k within. c.in_ok-done.ensures.none k)

@@ -23,7 +23,7 @@ returns-clause-state c = record {
   count = length-set c.args.self.now.done.items c.args.step _ ∙ c.requires.state.count;
   point = point_is c.args.self.now.point.scale c.put.new.values _ (ap (λ (p : Point). p.scale) c.requires.state.point)
       (undo_costs c.args.rollout.now c.args.self.now.done.items c.put.new.values c.args.self.now.point.values c.present.result.now c.variables.result.now
-          c.args.step
+      c.args.step
       c.keeps_conditions.ensures c.requires.step c.requires.state.count (ap (λ (p : Point). p.values) c.requires.state.point) c.variables.ensures
-          c.present.ensures c.put.ensures.count c.put.ensures.put);
+      c.present.ensures c.put.ensures.count c.put.ensures.put);
 }

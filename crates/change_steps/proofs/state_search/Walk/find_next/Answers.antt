@@ -19,7 +19,7 @@ returns-then-may_try-clause-walk c =
     (walk_same c.args.held_rollout.now c.loop-step.self c.may_try.new.self c.loop-step.invariant.walk c.may_try.ensures.state c.may_try.ensures.done
     c.may_try.ensures.position c.may_try.ensures.room)
     (subst (λ (s : Position). IsExplored c.args.held_rollout.now s.tested (way_state c.args.held_rollout.now s.order) c.loop-step.step)
-        (sym c.may_try.ensures.position)
+    (sym c.may_try.ensures.position)
     c.loop-step.invariant.explored)
 
 pub returns-clause-walk : goal.returns-clause-walk

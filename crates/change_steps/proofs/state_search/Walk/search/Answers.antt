@@ -7,4 +7,4 @@ pub take_rounds-requires : goal.take_rounds-requires
 take_rounds-requires c =
     begun_under_way c.args.held_rollout.now c.args.nodes c.args.self.now c.in-Some.field-0 c.requires
     (subst (λ (m : List Bool). MayFollow c.args.held_rollout.now.rollout c.args.held_rollout.now.held m c.in-Some.field-0) c.deref.ensures.value
-        c.in-Some.ensures)
+    c.in-Some.ensures)

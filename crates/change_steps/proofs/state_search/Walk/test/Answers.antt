@@ -33,7 +33,7 @@ returns-in_ok-go_on-clause-walk c =
 pub returns-in_ok-go_on-clause-safe : goal.returns-in_ok-go_on-clause-safe
 returns-in_ok-go_on-clause-safe c =
     subst (λ (m : List Bool). IsTrue c.is_safe_after-safe.result ↔ IsSafe c.args.held_rollout.now.rollout c.args.held_rollout.now.held (is_marked m))
-        c.do_step.ensures.done
+    c.do_step.ensures.done
     c.is_safe_after-safe.ensures.safe
 
 pub returns-else-safe-clause-walk : goal.returns-else-safe-clause-walk
@@ -49,5 +49,5 @@ returns-else-safe-clause-walk c =
 pub returns-else-safe-clause-safe : goal.returns-else-safe-clause-safe
 returns-else-safe-clause-safe c =
     subst (λ (m : List Bool). IsTrue c.is_safe_after-safe.result ↔ IsSafe c.args.held_rollout.now.rollout c.args.held_rollout.now.held (is_marked m))
-        c.do_step.ensures.done
+    c.do_step.ensures.done
     c.is_safe_after-safe.ensures.safe

@@ -40,7 +40,7 @@ returns-in_err-add_row-clause-held c =
     (record { tableau = c.add_row.new.self; held = c.loop-row.self.held; top = c.loop-row.self.top; variables = c.loop-row.self.variables })
     c.loop-row.row _ c.in_err-add_row.field-0.0 c.loop-row.invariant.stands c.loop-row.invariant.at (omega (arith, c.loop-row-test.true))
     (subst (λ (f : Form). IsRowRefused (held_by c.loop-row.self.tableau) f (held_by c.add_row.new.self) c.in_err-add_row.field-0.0) c.index-forms-row.is
-        c.in_err-add_row.ensures.refused) refl refl refl
+    c.in_err-add_row.ensures.refused) refl refl refl
 
 pub returns-in_err-add_row-clause-wide : goal.returns-in_err-add_row-clause-wide
 returns-in_err-add_row-clause-wide c =

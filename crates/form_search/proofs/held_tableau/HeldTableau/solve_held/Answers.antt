@@ -17,8 +17,12 @@ pub returns-in_err-solve-clause-places : goal.returns-in_err-solve-clause-places
 returns-in_err-solve-clause-places c = refl
 
 pub returns-in_err-solve-clause-kept : goal.returns-in_err-solve-clause-kept
-returns-in_err-solve-clause-kept c = record { tableau = stopped_keeps c.args.self.now.tableau c.solve.new.self _ c.in_err-solve.ensures.stop; held = refl;
-    noted_top = refl; noted_width = refl }
+returns-in_err-solve-clause-kept c = record {
+  tableau = stopped_keeps c.args.self.now.tableau c.solve.new.self _ c.in_err-solve.ensures.stop;
+  held = refl;
+  noted_top = refl;
+  noted_width = refl;
+}
 
 pub returns-in_err-solve-clause-going : goal.returns-in_err-solve-clause-going
 returns-in_err-solve-clause-going c = let p = err_from_is_err_and c.from_residual.result c.from_residual.ensures.1 in rw p.1 tt
@@ -45,8 +49,13 @@ pub returns-in-Feasible-clause-places : goal.returns-in-Feasible-clause-places
 returns-in-Feasible-clause-places c = c.point_to.ensures.places
 
 pub returns-in-Feasible-clause-kept : goal.returns-in-Feasible-clause-kept
-returns-in-Feasible-clause-kept c = record { tableau = solved_keeps c.args.self.now.tableau c.solve.new.self c.solve.new.self.basis
-    (Ended c.in_ok-solve.field-0) c.in_ok-solve.ensures.ended; held = refl; noted_top = refl; noted_width = refl }
+returns-in-Feasible-clause-kept c = record {
+  tableau = solved_keeps c.args.self.now.tableau c.solve.new.self c.solve.new.self.basis
+      (Ended c.in_ok-solve.field-0) c.in_ok-solve.ensures.ended;
+  held = refl;
+  noted_top = refl;
+  noted_width = refl;
+}
 
 pub returns-in-Feasible-clause-going : goal.returns-in-Feasible-clause-going
 returns-in-Feasible-clause-going c = on_ok_anyway c.point_to.result (subst IsGoing (sym (ap (λ (h : Held). h.stage) c.in_ok-solve.ensures.ended)) tt)
@@ -65,8 +74,13 @@ pub returns-in-Refuted-clause-places : goal.returns-in-Refuted-clause-places
 returns-in-Refuted-clause-places c = refl
 
 pub returns-in-Refuted-clause-kept : goal.returns-in-Refuted-clause-kept
-returns-in-Refuted-clause-kept c = record { tableau = solved_keeps c.args.self.now.tableau c.solve.new.self c.solve.new.self.basis (Ended c.in_ok-solve.field-0)
-    c.in_ok-solve.ensures.ended; held = refl; noted_top = refl; noted_width = refl }
+returns-in-Refuted-clause-kept c = record {
+  tableau = solved_keeps c.args.self.now.tableau c.solve.new.self c.solve.new.self.basis (Ended c.in_ok-solve.field-0)
+      c.in_ok-solve.ensures.ended;
+  held = refl;
+  noted_top = refl;
+  noted_width = refl;
+}
 
 pub returns-in-Refuted-clause-going : goal.returns-in-Refuted-clause-going
 returns-in-Refuted-clause-going c = on_ok_anyway c.parts_of.result (subst IsGoing (sym (ap (λ (h : Held). h.stage) c.in_ok-solve.ensures.ended)) tt)

@@ -80,7 +80,7 @@ returns-clause-numbers c =
     c.in_ok-into-inside.ensures.exact c.in_ok-into-inside.ensures.within in
     always_ok c.divide_entries-made.result (AreTableNumbers c.args.top (c.in_ok-into-inside.field-0 ∷ filled i.width c.divide_entries-made.new.made.items))
     (line_numbers c.args.top c.in_ok-into-inside.field-0 i.width c.divide_entries-made.new.made.items value_is
-        c.divide_entries-made.ensures.entries.entries.numbers)
+    c.divide_entries-made.ensures.entries.entries.numbers)
 
 pub returns-clause-wide : goal.returns-clause-wide
 returns-clause-wide c =

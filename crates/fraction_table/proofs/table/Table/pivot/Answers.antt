@@ -87,9 +87,9 @@ returns-in_err-turn_lines-clause-wide c =
     let row_is = line_read t c.args.line c.index.result.now c.index.ensures c.requires.pivot.line_in in
     rw (p.1, p.2)
     (turning_wide t c.requires.tableau c.args.line c.args.column c.take_quotients.new.quotients c.in_ok-inverse.inverse c.requires.pivot.line_in
-        c.requires.pivot.pivot
+    c.requires.pivot.pivot
     (c.in_ok-inverse.ensures.divided.quotients_are ∙ ap (λ (row : List Fraction). divided_without (suc c.args.column) (entry row (suc c.args.column)) row 0)
-        row_is)
+    row_is)
     (c.in_ok-inverse.ensures.divided.inverse_is ∙ ap (λ (row : List Fraction). divided (whole (pos 1)) (entry row (suc c.args.column))) row_is)
     wide
     (subst (λ (lines : List (List Fraction)). TurnsWide t.top lines c.take_quotients.new.quotients
@@ -128,7 +128,7 @@ returns-clause-tableau c =
     IsTableauOf t.top t.costs t.rows.items (slice_set t.basis.items c.args.column (member_at t c.args.line)) lines)
     (sym (news_kept turned))
     (pivot_whole t c.requires.tableau c.args.line c.args.column news c.requires.pivot.line_in c.requires.pivot.pivot c.requires.pivot.least (news_are turned)
-        (news_numbers turned)))
+    (news_numbers turned)))
 
 pub returns-clause-rises : goal.returns-clause-rises
 returns-clause-rises c =
@@ -137,4 +137,4 @@ returns-clause-rises c =
     let turned = (goal.at.returns-clause-rises c).In_ok-turn_lines in
     subst (λ (lines : List (List Fraction)). rank t < digits_number (past_heights t.top) (heights t.top (length t.costs.low) lines)) (sym (news_kept turned))
     (rank_rises t c.requires.tableau c.args.line c.args.column news c.requires.pivot.line_in c.requires.pivot.pivot c.requires.pivot.least (news_are turned)
-        (news_numbers turned))
+    (news_numbers turned))

@@ -43,7 +43,7 @@ pub put_over_common-part-requires-clause-before : goal.put_over_common-part-requ
 put_over_common-part-requires-clause-before c =
     first_small c.args.self c.args.numbers.now c.args.entering.now c.args.part c.loop-column.column c.loop-column.numbers
     c.loop-column.part c.loop-column.invariant.turned (omega (arith, c.loop-column-test.true, c.requires.long, ap length c.as_slice-line.ensures))
-        c.requires.small
+    c.requires.small
 
 pub next_of_both-column-requires-in-loop-column-clause-long : goal.next_of_both-column-requires-in-loop-column-clause-long
 next_of_both-column-requires-in-loop-column-clause-long c =
@@ -70,7 +70,7 @@ loop-column-preserved c =
     ap (λ (xs : List ℤ). number_at xs i) c.as_slice.ensures ∙ c.loop-column.invariant.turned.rest i (omega arith) in
     let there : number_at c.as_slice-line.result.now i ≡ number_at line i = ap (λ (xs : List ℤ). number_at xs i) c.as_slice-line.ensures in
     let turned = passed_turned c.args.self c.args.numbers.now line c.args.part (i + 1) next.result c.put_over_common-part.new.numbers
-        c.put_over_common-part.result
+    c.put_over_common-part.result
     (one_turned c.args.self c.args.numbers.now line c.args.part i c.loop-column.numbers c.loop-column.part
     (read c.turned_small-number.result) c.put_over_common-part.new.numbers c.put_over_common-part.result c.loop-column.invariant.turned
     (read_known c.turned_small-number.result c.turned_small-number.type_inv

@@ -49,4 +49,4 @@ returns-in-Refuted-clause-caps c = ap (λ (f : Found). after_cap (caps_of c.args
 pub returns-in-Undecided-clause-caps : goal.returns-in-Undecided-clause-caps
 returns-in-Undecided-clause-caps c =
     caps_undecided c.args.self c.args.cap c.args.found c.in-Undecided.tree c.undecided_at.result c.in-Undecided.is c.undecided_at.ensures.costs
-        c.undecided_at.ensures.undecided
+    c.undecided_at.ensures.undecided

@@ -33,7 +33,7 @@ undecided-requires-in-Between-clause-trees c =
 pub returns-in-NoCosts-clause-tells : goal.returns-in-NoCosts-clause-tells
 returns-in-NoCosts-clause-tells c =
     IfOk-weaker c.undecided.result _ _ (λ a tells. told_best c.args.problem.now c.args.self.kept c.args.self.best (NoCosts c.in-NoCosts.tree) a c.in-NoCosts.is
-        tells)
+    tells)
     c.undecided.ensures.tells
 
 pub returns-in-Costs-clause-tells : goal.returns-in-Costs-clause-tells

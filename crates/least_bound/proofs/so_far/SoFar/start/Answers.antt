@@ -12,7 +12,7 @@ returns-clause-holds c = λ top nodes pool holds.
     let p = c.args.problem.now in
     let low_is : c.as_slice.result.now ≡ p.low = c.as_slice.ensures ∙ ap (λ (q : DesignProblem). q.low) c.problem.view_is in
     so_far_starts p top nodes pool c.greatest_of-lowest_cap.result c.args.most c.args.best (c.greatest_of-lowest_cap.ensures ∙ ap greatest_cost low_is)
-        c.requires holds
+    c.requires holds
 
 pub returns-clause-caps : goal.returns-clause-caps
 returns-clause-caps c =

@@ -7,5 +7,8 @@ use Rattle.rival_separation.proofs.asker.Asker.prepare.Goals as goal
 pub returns-clause-asker : goal.returns-clause-asker
 returns-clause-asker c =
     let old = subst (λ (a : Asking). IsAskerFor c.args.survey.now.graph.now c.args.survey.now.requests.now a) (sym c.self.view_is) c.requires.asker in
-    record { room = subst (λ (g : Area). IsRoomFor g c.look.new.room) c.outlook_at-outlook.ensures.graph c.look.ensures.room; known = old.known;
-        each = old.each }
+    record {
+      room = subst (λ (g : Area). IsRoomFor g c.look.new.room) c.outlook_at-outlook.ensures.graph c.look.ensures.room;
+      known = old.known;
+      each = old.each;
+    }

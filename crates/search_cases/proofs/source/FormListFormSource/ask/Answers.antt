@@ -11,7 +11,7 @@ loop-place-preserved c =
     let tiny : All (IsTiny list.variables) list.forms = search rules in
     let inside : c.loop-place.place < length list.forms = search rules in
     subst (λ (asked : Asked). AreFormsAsked list c.args.point.now (c.loop-place.place + 1) c.args.pool.now c.ask_one.new.pool asked)
-        (sym c.joined-asked.ensures)
+    (sym c.joined-asked.ensures)
     (asked_more list c.args.point.now c.loop-place.place c.args.pool.now c.loop-place.pool c.ask_one.new.pool
     c.loop-place.asked c.in_ok-ask_one.field-0 tiny c.requires.met inside c.loop-place.invariant
     c.in_ok-ask_one.ensures.one)

@@ -18,7 +18,7 @@ pub returns-clause-entry : goal.returns-clause-entry
 returns-clause-entry c = elim c.match-pop.branch [
   | in-Some w ↦ rw w.result-is
       (subst (λ (old : List WaitingVertex). IsPermutation old (w.in-Some.field-0.0 ∷ map (λ r. r.0) (heap_items c.pop.new.self)))
-          (ap (λ q. q.entries) c.self.view_is)
+      (ap (λ q. q.entries) c.self.view_is)
       (IsPermutation-map (λ r. r.0) (heap_items c.self.inside.entries) (w.in-Some.field-0 ∷ heap_items c.pop.new.self) w.in-Some.ensures.permutation))
   | in-None w ↦ rw w.result-is (let none =
       none_held c.pop.new.self (let same = w.in-None.ensures.unchanged.1 in let empty = w.in-None.ensures.none in

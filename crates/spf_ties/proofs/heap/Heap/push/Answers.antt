@@ -21,4 +21,4 @@ returns-clause-entries c =
     let done = succeeded c.push.result _ (c.push.ensures.succeeds short) c.push.ensures.permutation in
     let moved = IsPermutation-map (λ r. r.0) _ _ done in
     subst (λ (old : List WaitingVertex). IsPermutation (c.args.entry ∷ old) (map (λ r. r.0) (heap_items c.push.new.self))) (ap (λ w. w.entries) c.self.view_is)
-        moved
+    moved

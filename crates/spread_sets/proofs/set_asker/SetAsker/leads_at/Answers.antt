@@ -22,10 +22,10 @@ tree : (c : After-set_at-set) → IsTiedHere c.outlook_at-outlook.result (paths_
 tree c =
     let p = c.args.survey.now.problem.now in
     let ready = c.requires.asker.trees (slice_index c.args.self.now.order c.args.place) no_member_set (c.requires.asker.known c.args.place 0 c.requires.place)
-        in
+    in
     subst (λ (m : MemberSet). IsTiedHere c.outlook_at-outlook.result (paths_of p (set c).members) m.tree) (sym c.set_at-set.ensures)
     (tree_seen p c.args.survey.now.point.now (set c) c.outlook_at-outlook.result c.keeps_problem_on_graph.ensures.problem ready.has_tree c.requires.tied
-        (seen c))
+    (seen c))
 
 pub paths_lead-requires-clause-tree : goal.paths_lead-requires-clause-tree
 paths_lead-requires-clause-tree c =

@@ -31,8 +31,12 @@ told g c =
     let now = c.loop-place.self in
     let place = c.loop-place.place in
     let is = c.loop-place.invariant in
-    let inside : place < length old.sets = omega (arith, c.count-place-end.ensures, c.loop-place-test.true,
-        ap (λ (s : KnownSets). length s.sets) c.cheap_outsiders.ensures.same) in
+    let inside : place < length old.sets = omega (
+      arith,
+      c.count-place-end.ensures,
+      c.loop-place-test.true,
+      ap (λ (s : KnownSets). length s.sets) c.cheap_outsiders.ensures.same,
+    ) in
     let items = c.in_ok-outsiders.outsiders.items in
     let count = c.in_ok-outsiders.ensures.told.count in
     let read : c.index.result.now ≡ slice_index_or items place None =
@@ -60,8 +64,12 @@ loop-place-preserved g c =
     let now_forms = c.loop-place.pool in
     let new = c.take_outsider.new.self in
     let new_forms = c.take_outsider.new.pool in
-    let inside : place < length old.sets = omega (arith, c.count-place-end.ensures, c.loop-place-test.true,
-        ap (λ (s : KnownSets). length s.sets) c.cheap_outsiders.ensures.same) in
+    let inside : place < length old.sets = omega (
+      arith,
+      c.count-place-end.ensures,
+      c.loop-place-test.true,
+      ap (λ (s : KnownSets). length s.sets) c.cheap_outsiders.ensures.same,
+    ) in
     let IsOne : Bool → Type 0 = λ b. IsSetAsked point place now now_forms new new_forms b in
     let one = c.in_ok-take_outsider.ensures.one point (told g (goal.at.loop-place-preserved g c).After-index) in
     let Then : Asked → Type 0 = λ a. AreSetsAsked point (place + 1) old forms new new_forms a in

@@ -46,7 +46,7 @@ returns-clause-one g c = λ point cheap.
       forms = c.in_ok-push_row.ensures.form ∙ ap (λ (f : Form). c.args.pool.now ++ f ∷ [])
           (c.in_ok-form.ensures.form
           ∙ row_form q row (subst (λ (t : KnownSets). IsRouteOf t.problem.graph (slice_get t.problem.requests row.request) row.rival) (sym c.self.view_is)
-              found.route)
+          found.route)
           ∙ ap (λ (t : KnownSets). form_of_set_row t.problem (Outsider row.request row.rival)) c.self.view_is
           ∙ ap (λ (k : ℕ). form_of_set_row s.problem (Outsider k row.rival)) found.name);
     }

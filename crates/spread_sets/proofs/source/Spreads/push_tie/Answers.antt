@@ -20,6 +20,6 @@ form_of_tie-requires-clause-same_ends g c =
     let s = c.args.self.now in
     let set = set_at s.sets c.args.pair.place in
     subst (λ (t : KnownSets). IsRouteOf t.problem.graph (slice_get t.problem.requests c.args.pair.first) (edges_of t.problem c.args.pair.second))
-        (sym c.self.view_is)
+    (sym c.self.view_is)
     (tie_route s.problem set c.args.pair.first c.args.pair.second c.keeps.ensures.kept.problem
     (c.keeps.ensures.sets c.args.pair.place [] c.requires.place) c.requires.first c.requires.second)

@@ -71,7 +71,7 @@ returns c =
     ∙ after_read k c.args.column v c.index.result.now c.turn_at-turn.result c.requires.ready
     (line_read k v c.index.result.now c.requires.ready.among c.index.ensures) turn_is c.turn_at-turn.ensures.multiplier in
     constant_told k c.args.column v (nat_abs c.args.common) c.stays_within.result (to_z w128 (of_z w128 c.constant_after.result))
-        (nat_abs (read c.share_in.result))
+    (nat_abs (read c.share_in.result))
     (to_z-of_z w128 c.constant_after.result (record { sfits = c.constant_after.type_inv })
     ∙ c.constant_after.ensures
     ∙ ap (λ (l : Line). turned_number c.turn_at-turn.result l.constant k.entering.constant)

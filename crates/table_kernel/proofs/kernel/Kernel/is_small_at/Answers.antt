@@ -33,6 +33,6 @@ pub returns : goal.returns
 returns c =
     let k = c.args.self.now in
     subst (λ (t : Turn). IsTrue c.is_small_at.result ↔ AreSmallAfter t c.args.column k.entering (line_of k c.args.var) c.args.lowest.part)
-        c.turn_at-turn.ensures.turn
+    c.turn_at-turn.ensures.turn
     (subst (λ (l : Line). IsTrue c.is_small_at.result ↔ AreSmallAfter c.turn_at-turn.result c.args.column k.entering l c.args.lowest.part)
     (line_read k c.args.var c.index.result.now c.requires.ready.among c.index.ensures) c.is_small_at.ensures)

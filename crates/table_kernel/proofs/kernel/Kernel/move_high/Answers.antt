@@ -49,7 +49,7 @@ module _ (c : After-set) where
       subst (λ (b : ℕ). IsHighShift c.args.self.now c.shift_high.new.self (High c.args.var b) (High c.args.var c.args.bound)
       (pos (slice_index c.args.self.now.table.costs.high c.args.var) -ℤ pos c.args.bound)) high_is
       (subst (λ (z : ℤ). IsHighShift c.args.self.now c.shift_high.new.self (High c.args.var (slice_index c.as_slice.result.now c.args.var))
-          (High c.args.var c.args.bound) z) fall_is
+      (High c.args.var c.args.bound) z) fall_is
       (record { column = sh.0; basis = sh.1.0; lines = sh.1.1 }))
 
   moves_on : IsMoving (put_highs c.shift_high.new.self c.set.new.self)

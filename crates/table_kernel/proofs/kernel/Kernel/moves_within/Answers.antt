@@ -26,7 +26,7 @@ far c =
 told : (c : After-line_may_move) → (read (read c.distance-lows.result +ℤ read c.distance-highs.result) ≡
     pos (box_distance c.args.self.now.table.costs c.args.costs.now)) →
     IsTrue c.line_may_move.result ↔ LineMayMove (nat_abs c.args.self.now.common) (box_distance c.args.self.now.table.costs c.args.costs.now)
-        (line_of c.args.self.now c.loop-var.var)
+    (line_of c.args.self.now c.loop-var.var)
 told c is =
     let k = c.args.self.now in
     subst (λ (n : ℕ). IsTrue c.line_may_move.result ↔ LineMayMove (nat_abs k.common) n (line_of k c.loop-var.var)) (ap nat_abs is) c.line_may_move.ensures

@@ -64,7 +64,7 @@ returns-clause-numbers c i i_in =
     ∙ ap (λ (z : ℤ). number_at_column c.index.result.now (map (λ row. number_at row (suc i)) (map (scaled_line (nat_abs z)) c.as_slice.result.now)))
     (common_read k c.requires.kernel.bounded)
     ∙ ap (λ (ls : List Line). number_at_column c.index.result.now (map (λ row. number_at row (suc i)) (map (scaled_line (nat_abs k.common)) ls)))
-        c.as_slice.ensures.value
+    c.as_slice.ensures.value
     ∙ ap (λ (f : Form). number_at_column f (column_of k i))
     (c.index.ensures ∙ get_or_default k.table.rows.items c.args.row c.index.result.now no_form c.requires.row)
 

@@ -40,7 +40,7 @@ returns-in_err-pivot-in-Some-clause-same c =
     on_err c.from_residual-in_err-pivot-in-Some.result
     (keeps_twice c.args.self.now c.choose.new.self c.pivot.new.self
     (keeps_twice c.args.self.now c.put_line.new.self c.choose.new.self c.in_ok-put_line.ensures.keeps c.choose.ensures.keeps)
-        c.in_err-pivot-in-Some.ensures.same)
+    c.in_err-pivot-in-Some.ensures.same)
 
 pub returns-in_err-pivot-in-Some-clause-refused : goal.returns-in_err-pivot-in-Some-clause-refused
 returns-in_err-pivot-in-Some-clause-refused c =

@@ -41,8 +41,12 @@ pub loop-column-preserved : goal.loop-column-preserved
 loop-column-preserved c =
     filled_next c.args.self.now c.loop-column.self c.restate_entry.new.self c.args.place c.loop-column.column c.member_at-member.result
     (omega (arith, c.requires.place, c.requires.kernel.shaped.lines))
-    (omega (arith, c.loop-column-test.true, c.width-column-end.ensures,
-        ap (λ (costs : CostBox). length costs.low) c.restate_constant.ensures.keeps.table.costs))
+    (omega (
+      arith,
+      c.loop-column-test.true,
+      c.width-column-end.ensures,
+      ap (λ (costs : CostBox). length costs.low) c.restate_constant.ensures.keeps.table.costs,
+    ))
     c.member_at-member.ensures
     c.loop-column.invariant c.restate_entry.ensures.keeps c.restate_entry.ensures.lines
 

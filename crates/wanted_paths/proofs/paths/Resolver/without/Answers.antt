@@ -29,7 +29,7 @@ returns-then-is_excluded-clause-refused c =
     list_any (is_router_part (next_name route.hops route.last)) parts
     || list_any (is_marked ms) c.args.walk.now.path.edges) c.deref-2.ensures.value in
     rw c.at.ensures (ap first_of (without_faults_are d c.args.line route c.args.walk.now parts c.in_ok-excluded.excluded.items c.mark_excluded.new.marks.items
-        c.is_excluded.result
+    c.is_excluded.result
     base c.requires.walk c.requires.walks words excluded tests
     ∙ ap (λ b. fault_unless (not b) (PathExcluded c.args.line)) c.if-is_excluded.true))
 
