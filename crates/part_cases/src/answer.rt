@@ -45,7 +45,7 @@ fn outside_text(
     }
 }
 
-/// What is answered to a line that asks of numbers, covers, commands, made cases or advisors, shelves or sinks.
+/// What is answered to a line that asks of numbers, covers, commands, made trials or advisors, shelves or sinks.
 fn part_text(
     rt: &(impl Files + AllocGlobal),
     first: &str,

@@ -1,5 +1,5 @@
 //! Runs scripts of the parts that know no network: lines, words and numbers, fractions, forms and boxes, covers,
-//! commands, made cases, advisors, and what stands for the outside. Each line of standard input, with what is answered
+//! commands, made trials, advisors, and what stands for the outside. Each line of standard input, with what is answered
 //! to it.
 //!
 //! `stdin` has the cases, and `stdout` their answers, which were worked out by hand.
