@@ -43,8 +43,8 @@ pub fn linked_ports<'a>(alloc: Global, ports: &[Port<'a>]) -> Result<Vec<Port<'a
     let members = count_members(alloc, ports)?;
     let mut found = Vec::new(alloc);
     for port in ports {
-        if is_linked(&members, port) && found.push(port.again()).is_err() {
-            return Err(OutOfMemory);
+        if is_linked(&members, port) {
+            found.push(port.again())?;
         }
     }
     Ok(found)
@@ -72,8 +72,8 @@ fn first_ports<'a>(
 {
     let mut found = Vec::new(alloc);
     for port in links {
-        if is_first_member(seen, port) && found.push(port.again()).is_err() {
-            return Err(OutOfMemory);
+        if is_first_member(seen, port) {
+            found.push(port.again())?;
         }
         seen.add(subnet_of(port))?;
     }

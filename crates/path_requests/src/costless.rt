@@ -79,7 +79,7 @@ fn refuse(fault: Option<ResolutionFault>) -> Result<(), Refusal<ResolutionFault,
     ensures refused { IfErr result (TellsResolution fault) }
 {
     match fault {
-        Some(fault) => Err(Refusal::Refused { fault, place: () }),
+        Some(fault) => Err(Refusal::at((), fault)),
         None => Ok(()),
     }
 }

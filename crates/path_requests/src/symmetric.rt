@@ -6,7 +6,7 @@ ghost use Rattle.wanted_paths.specs.Paths.{is_link_named};
 ghost use Rattle.path_requests.specs.Meaning.{says_symmetric};
 ghost use Rattle.path_requests.specs.Chosen.{ties_all, ties_one};
 
-use cost_base::OutOfMemory;
+use cost_base::{OutOfMemory, mark_within};
 use lsdb_build::Linked;
 use request_reader::{Directive, DirectiveLine};
 use std::alloc::Global;
@@ -55,12 +55,7 @@ fn mark(names: &Names, router: &[u8], interface: &[u8], marks: &mut Vec<bool>)
         link) names.now.links }
 {
     match names.find_interface(router, interface) {
-        Some(link) => {
-            let place = link as usize;
-            if place < marks.len() {
-                marks[place] = true;
-            }
-        }
+        Some(link) => mark_within(marks, link as usize),
         None => {}
     }
 }

@@ -8,7 +8,7 @@ ghost use Rattle.wanted_paths.specs.LineFaults.{TellsResolution};
 
 use crate::choices::Choices;
 use crate::ranges::{Range, same_range};
-use cost_base::{OutOfMemory, Refusal, push_if};
+use cost_base::{OutOfMemory, Refusal, push_if, push_some};
 use lsdb_build::Linked;
 use request_reader::{Directive, DirectiveLine};
 use std::alloc::Global;
@@ -90,10 +90,7 @@ fn push_low(choices: &Choices, number: u32, made: &mut Vec<u16>) -> Result<(), O
         (option_to_list (range_at choices.now.asked choices.now.database
         (slice_get choices.now.database.links number)))) }
 {
-    match choices.range_at(number) {
-        Some(range) => Ok(made.push(low_of(range))?),
-        None => Ok(()),
-    }
+    push_some(made, choices.range_at(number).map(low_of))
 }
 
 /// Appends the upper bound of the link of a number.
@@ -102,10 +99,7 @@ fn push_high(choices: &Choices, number: u32, made: &mut Vec<u16>) -> Result<(), 
         (option_to_list (range_at choices.now.asked choices.now.database
         (slice_get choices.now.database.links number)))) }
 {
-    match choices.range_at(number) {
-        Some(range) => Ok(made.push(high_of(range))?),
-        None => Ok(()),
-    }
+    push_some(made, choices.range_at(number).map(high_of))
 }
 
 /// The lower bounds of some links.

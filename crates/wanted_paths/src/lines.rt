@@ -65,9 +65,7 @@ fn push_request(
     match &item.what {
         Directive::Path(route, parts) => {
             let request = resolver.path(line, route, parts.as_slice())?;
-            if made.push(request).is_err() {
-                return Err(Refusal::OutOfMemory);
-            }
+            made.push(request)?;
         }
         Directive::Free(router, interface, _, _) => {
             resolver
