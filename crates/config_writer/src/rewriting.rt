@@ -90,7 +90,7 @@ fn write_lines<'a>(
     let mut writer = Writer::new(alloc, costs);
     let mut left = Lines::new(bytes, bytes.len());
     while let Some(line) = next_line(&mut left) {
-        writer.write_line(line.text, left.ended())?;
+        writer.write_line(alloc, line.text, left.ended())?;
     }
     Ok(writer)
 }

@@ -10,7 +10,7 @@ use crate::line_buffer::LineBuffer;
 use crate::put_parts::{put_capped_tree, put_cost_lines};
 use crate::text_buffer::TextBuffer;
 use crate::{TreePart, put_answer, put_costs, put_rows, put_tree};
-use cost_base::{OutOfMemory, PutFailed};
+use cost_base::OutOfMemory;
 use design_problem::{Answer, CapTree, CostLine, Costs, Row, Tree};
 use std::alloc::Global;
 use std::mem::replace;
@@ -24,10 +24,8 @@ pub fn text_of_answer(alloc: Global, answer: &Answer) -> Result<Vec<u8>, OutOfMe
     ensures { IfOk result (λ bytes. bytes.items ≡ text answer.now) }
 {
     let mut buffer = TextBuffer::from_bytes(Vec::new(alloc));
-    match put_answer(answer, &mut buffer) {
-        Ok(()) => Ok(buffer.bytes),
-        Err(PutFailed) => Err(OutOfMemory),
-    }
+    let put = put_answer(answer, &mut buffer);
+    buffer.whole(put)
 }
 
 /// Adds the lines of costs at the end, as the text of an answer has them.
@@ -45,13 +43,9 @@ pub fn push_costs(
         (costs_lines (option_copied costs.entry))) }
 {
     let mut buffer = TextBuffer::from_bytes(replace(text, Vec::new(alloc)));
-    match put_costs(costs, &mut buffer) {
-        Ok(()) => {
-            *text = buffer.bytes;
-            Ok(())
-        }
-        Err(PutFailed) => Err(OutOfMemory),
-    }
+    let put = put_costs(costs, &mut buffer);
+    *text = buffer.whole(put)?;
+    Ok(())
 }
 
 /// Adds cost lines at the end, as the text of an answer has them behind their count.
@@ -69,13 +63,9 @@ pub fn push_cost_lines(
         (cost_lines None lines.now)) }
 {
     let mut buffer = TextBuffer::from_bytes(replace(text, Vec::new(alloc)));
-    match put_cost_lines(lines, &mut buffer) {
-        Ok(()) => {
-            *text = buffer.bytes;
-            Ok(())
-        }
-        Err(PutFailed) => Err(OutOfMemory),
-    }
+    let put = put_cost_lines(lines, &mut buffer);
+    *text = buffer.whole(put)?;
+    Ok(())
 }
 
 /// Adds the lines of rows at the end, as the text of an answer has them.
@@ -88,13 +78,9 @@ pub fn push_rows(alloc: Global, text: &mut Vec<u8>, rows: &[Row]) -> Result<(), 
     ensures { OnOk result (text.new.items ≡ text.old.items ++ with_ends (rows_lines rows.now)) }
 {
     let mut buffer = TextBuffer::from_bytes(replace(text, Vec::new(alloc)));
-    match put_rows(rows, &mut buffer) {
-        Ok(()) => {
-            *text = buffer.bytes;
-            Ok(())
-        }
-        Err(PutFailed) => Err(OutOfMemory),
-    }
+    let put = put_rows(rows, &mut buffer);
+    *text = buffer.whole(put)?;
+    Ok(())
 }
 
 /// Adds the lines of a tree at the end, as the text of an answer has them in this part.
@@ -113,13 +99,9 @@ pub fn push_tree(
         (tree_lines (part_word part) (option_copied tree.entry))) }
 {
     let mut buffer = TextBuffer::from_bytes(replace(text, Vec::new(alloc)));
-    match put_tree(part, tree, &mut buffer) {
-        Ok(()) => {
-            *text = buffer.bytes;
-            Ok(())
-        }
-        Err(PutFailed) => Err(OutOfMemory),
-    }
+    let put = put_tree(part, tree, &mut buffer);
+    *text = buffer.whole(put)?;
+    Ok(())
 }
 
 /// Adds the lines of a tree over the box at a cap at the end, as the text of an answer has them in this part.
@@ -141,13 +123,9 @@ pub fn push_capped_tree(
 {
     let mut buffer = TextBuffer::from_bytes(replace(text, Vec::new(alloc)));
     let mut line = LineBuffer::new();
-    match put_capped_tree(part, cap, tree, &mut line, &mut buffer) {
-        Ok(()) => {
-            *text = buffer.bytes;
-            Ok(())
-        }
-        Err(PutFailed) => Err(OutOfMemory),
-    }
+    let put = put_capped_tree(part, cap, tree, &mut line, &mut buffer);
+    *text = buffer.whole(put)?;
+    Ok(())
 }
 
 /// Adds the lines of rows at the end, and behind them those of a tree, as the text of an answer has them in this part.
