@@ -64,6 +64,8 @@ fn row_fault(alloc: Global, problem: &Problem, row: &Row) -> Result<Option<Check
 }
 
 /// The form of a row.
+///
+/// For the prover: a call, since the row's test shows that it is a row, and `form_of` requires that it has a route.
 fn form_of_rival(alloc: Global, problem: &Problem, row: &Row) -> Result<Form, OutOfMemory>
     requires { IsRow problem.now row.now }
     ensures form { IfOk result (λ form. form ≡ form_of_row problem.now row.now) }

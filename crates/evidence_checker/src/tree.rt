@@ -22,6 +22,8 @@ fn room_for_sums(alloc: Global, count: usize) -> Result<Vec<i128>, OutOfMemory>
 }
 
 /// The first test that a line fails at a box. The sums are room for a number for each variable, before and after.
+///
+/// For the prover: a call, since the list keeps its length, which `line_fault` can't say of the slice that it is given.
 fn fault_at(
     forms: &[Form],
     costs: &CostBox,

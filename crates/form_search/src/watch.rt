@@ -55,7 +55,7 @@ fn wake(
     waiting: &mut BinaryHeap<Reverse<usize>>,
     row: usize,
 ) -> Result<(), OutOfMemory> {
-    // For the prover: so are the numbers of forms.
+    // For the prover: each form's number is in range, which no clause says here.
     if let Some(pending) = pending.get_mut(row) {
         if !*pending {
             waiting.push(Reverse(row))?;
@@ -234,7 +234,7 @@ impl Watch {
     {
         match self.waiting.pop() {
             Some(Reverse(row)) => {
-                // For the prover: a form that waits is in range.
+                // For the prover: the number of a form that waits is in range, which no clause says here.
                 if let Some(pending) = self.pending.get_mut(row) {
                     *pending = false;
                 }

@@ -66,6 +66,7 @@ impl Heap {
         ensures entries { IsPermutation (entry ∷ self.old.entries) self.new.entries }
         ensures places { self.old.places ≤ self.new.places }
     {
+        // It can't fail: with a free place it takes no memory.
         let _ = self.entries.push(Reverse(entry));
     }
 
