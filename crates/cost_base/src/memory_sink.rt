@@ -103,7 +103,6 @@ impl Sink for MemorySink {
         let told = self.kept(self.calls);
         self.calls = self.calls.saturating_add(1);
         let size = told.unwrap_or(piece.len()).min(piece.len()).min(self.room);
-        // It can't fail: so many bytes fit the room, whose memory was taken when the sink was made.
         let _ = self.bytes.extend_from_slice(&piece[..size]);
         self.room -= size;
         if told.is_none() && size == piece.len() {

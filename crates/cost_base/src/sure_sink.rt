@@ -78,7 +78,6 @@ impl Sink for SureSink {
             self.old.room }
     {
         if piece.len() <= self.room {
-            // It can't fail: the piece fits the room, whose memory was taken when the sink was made.
             let _ = self.bytes.extend_from_slice(piece);
             self.room -= piece.len();
         } else {
