@@ -45,7 +45,7 @@ pub given_counts : (held_a held_b : List ℕ → Option (List ℕ)) (noted_a not
 given_counts held_a held_b noted_a noted_b came given =
     let count : (name : List ℕ) → count_of_name noted_b name ≡ count_of_name noted_a name + count_of_name (failures came) name =
     λ name. ap (λ (names : List (List ℕ)). count_of_name names name) given.noted ∙
-        sum_by-append (λ (x : List ℕ). cond (bytes_eq x name) 1 0) noted_a (failures came) in
+    sum_by-append (λ (x : List ℕ). cond (bytes_eq x name) 1 0) noted_a (failures came) in
     record {
       failed = λ name some. omega (arith, count name, some);
       kept = λ name none. omega (arith, count name, none);
