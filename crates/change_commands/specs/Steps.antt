@@ -21,6 +21,7 @@ use Rattle.change_steps.specs.Rollouts.{CostMoves, Rollout, variables_of_step}
 use Rattle.change_steps.specs.Outcomes.{AreStepsFound}
 use Rattle.command_words.specs.declared.job.StepUnit.{StepUnit}
 use Rattle.command_words.specs.declared.job.StepUnit.TheVariants as unit
+use Rattle.printed_parts.specs.SharedParts.{counted_line}
 use Rattle.report_writer.specs.declared.rejection.Rejection.{Rejection}
 use Rattle.report_writer.specs.declared.report.Report.{Report}
 use Rattle.report_writer.specs.Reports.{Reports}
@@ -69,7 +70,7 @@ stuck_line by d m blocked = spaced (codes "stuck" ∷ step_name by d m blocked.s
 
 -- the line `held COUNT I ..` with the numbers of the held paths
 abbrev pub held_line : List ℕ → List ℕ
-held_line held = spaced (codes "held" ∷ decimal (length held) ∷ map decimal held)
+held_line held = counted_line (codes "held") held
 
 -- the lines of a state from which no order goes on: the steps that were done, and what stops each other one
 abbrev pub stuck_lines : StepUnit → Database → CostMoves → Stuck → List (List ℕ)

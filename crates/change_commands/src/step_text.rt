@@ -9,7 +9,8 @@ ghost use Rattle.change_commands.specs.Steps.{step_line, step_name, step_words, 
 use change_steps::{Barrier, Blocked, Moves, Outcome, Steps, Stuck};
 use command_words::StepUnit;
 use cost_base::OutOfMemory;
-use line_builder::{LineBuilder, head_lines, push_count_line, push_line};
+use line_builder::{LineBuilder, push_count_line, push_line};
+use printed_parts::counted_head;
 use std::alloc::Global;
 use wanted_paths::Names;
 
@@ -194,10 +195,7 @@ fn head_of(alloc: Global, verdict: &[u8], held: &[u32]) -> Result<Vec<u8>, OutOf
         (λ text. text.items ≡ with_ends (codes "ospfcost steps 1" ∷ verdict.now ∷
         held_line held.now ∷ [])) }
 {
-    let held = LineBuilder::of_count(alloc, b"held", held.len() as u64, held)?;
-    let mut text = head_lines(alloc, b"ospfcost steps 1", verdict)?;
-    held.end_in(&mut text)?;
-    Ok(text)
+    counted_head(alloc, b"ospfcost steps 1", verdict, b"held", held)
 }
 
 /// The text up to its last line.

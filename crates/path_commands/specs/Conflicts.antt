@@ -1,5 +1,5 @@
 -- The text of `conflict`, and what the command may write.
-use Rattle.std.specs.Prelude.{◌≡◌, ℕ, List, [], ◌∷◌, ◌++◌, map, length, codes, Some}
+use Rattle.std.specs.Prelude.{◌≡◌, ℕ, List, [], ◌∷◌, ◌++◌, codes, Some}
 use Rattle.cost_base.specs.Decimal.{decimal}
 use Rattle.cost_base.specs.declared.Status.{Status}
 use Rattle.cost_base.specs.declared.Status.TheVariants.{Done, Undecided}
@@ -11,11 +11,11 @@ use Rattle.least_conflict.specs.declared.conflict.Conflict.TheVariants.{Fit, Lea
 use Rattle.least_conflict.specs.Conflicts.{IsConflictFound, all_requests}
 use Rattle.wide_fraction.specs.SearchLimits.{SearchLimits}
 use Rattle.input_files.specs.Outcomes.{Input}
-use Rattle.printed_parts.specs.SharedParts.{at_greatest_bound, costs_part}
+use Rattle.printed_parts.specs.SharedParts.{at_greatest_bound, costs_part, counted_line}
 
 -- the line `members COUNT I ..` with the numbers of requests
 abbrev pub members_line : List ℕ → List ℕ
-members_line members = spaced (codes "members" ∷ decimal (length members) ∷ map decimal members)
+members_line members = counted_line (codes "members") members
 
 -- the line `without I`, behind which stand costs that are fit without request I
 abbrev pub without_line : ℕ → List ℕ

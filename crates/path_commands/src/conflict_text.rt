@@ -12,8 +12,8 @@ use cost_base::OutOfMemory;
 use design_problem::{CostList, Problem, Row, Tree, keeps_problem_on_graph};
 use evidence_text::{TreePart, push_costs, push_evidence};
 use least_conflict::{Conflict, all_requests};
-use line_builder::{LineBuilder, head_lines, push_line};
-use printed_parts::{at_greatest_bound, costs_by_name};
+use line_builder::{LineBuilder, push_line};
+use printed_parts::{at_greatest_bound, costs_by_name, counted_head};
 use std::alloc::Global;
 
 /// The first lines, up to that of the requests.
@@ -22,10 +22,7 @@ fn head_of(alloc: Global, verdict: &[u8], members: &[u32]) -> Result<Vec<u8>, Ou
         (λ text. text.items ≡ with_ends (codes "ospfcost conflict 1" ∷ verdict.now ∷
         members_line members.now ∷ [])) }
 {
-    let members = LineBuilder::of_count(alloc, b"members", members.len() as u64, members)?;
-    let mut text = head_lines(alloc, b"ospfcost conflict 1", verdict)?;
-    members.end_in(&mut text)?;
-    Ok(text)
+    counted_head(alloc, b"ospfcost conflict 1", verdict, b"members", members)
 }
 
 /// Adds the lines of costs of the problem's variables.
