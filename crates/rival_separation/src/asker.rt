@@ -1,15 +1,15 @@
 //! What asks for the rivals of several requests at one point.
 
-ghost use Rattle.std.specs.Prelude.{◌≡◌, ◌↔◌, ◌<◌, ◌≤◌, ℕ, All, Contains, IfOk, IsTrue, MatchBool, Some, length, slice_index};
+ghost use Rattle.std.specs.Prelude.{◌≡◌, ◌↔◌, ◌<◌, ℕ, All, Contains, IfOk, IsTrue, MatchBool, Some, length, slice_index};
 ghost use Rattle.area_graph.specs.Costs.{FitsPoint};
 ghost use Rattle.design_problem.specs.Problems.{request_at};
 ghost use Rattle.rival_separation.specs.Askers.{AreCheapestRivals, ArePathsOf, CanCompareWith, IsAskerFor, IsCheapestIfAny};
-ghost use Rattle.rival_separation.specs.Askers.{IsReadyToCompare, MayShare, RequestLeads, lead_at, request_seen};
+ghost use Rattle.rival_separation.specs.Askers.{IsReadyToCompare, MayShare, RequestLeads, request_seen};
 ghost use Rattle.rival_separation.specs.Outlooks.{CanCompare, FitsOutlook, HasItsPath};
 
 use crate::outlook::Outlook;
-use crate::rival::{cheap_deviation, find_rival_at_hand, least_lead};
-use crate::shared::{Shared, look, serves, share, sorted_numbers, target_of};
+use crate::rival::{cheap_deviation, find_rival_at_hand};
+use crate::shared::{Shared, prepare, sorted_numbers, target_of};
 use crate::told::{nothing_told, tell};
 use area_graph::{Graph, Point};
 use cost_base::{Listed, OutOfMemory};
@@ -42,12 +42,18 @@ impl Model for Asker {
     ghost view = { λ a. record { room = a.room; order = a.order.items } };
 }
 
-/// The request of that number.
-fn request_of(requests: &[Request], number: usize) -> &Request
-    requires { number < length requests.now }
-    ensures { result.now ≡ request_at requests.now number }
+/// The request of that number, as a part of a survey.
+fn outlook_of<'a>(survey: &Survey<'a>, number: usize) -> Outlook<'a>
+    requires { number < length survey.now.requests.now }
+    ensures graph { result.graph.now ≡ survey.now.graph.now }
+    ensures request { result.request.now ≡ request_at survey.now.requests.now number }
+    ensures point { result.point.now ≡ survey.now.point.now }
 {
-    &requests[number]
+    Outlook {
+        graph: survey.graph,
+        request: &survey.requests[number],
+        point: survey.point,
+    }
 }
 
 /// Whether the path of a request leads by the scale. The room has the distances that serve the request.
@@ -105,33 +111,7 @@ impl Asker {
         ensures request { result.request.now ≡ request_seen survey.now self.now place }
         ensures point { result.point.now ≡ survey.now.point.now }
     {
-        Outlook {
-            graph: survey.graph,
-            request: request_of(survey.requests, self.number_at(place)),
-            point: survey.point,
-        }
-    }
-
-    /// Up to which limit distances serve the request at a place of the order, and those behind it that share them: each
-    /// of their rivals that is too cheap costs less.
-    fn limit_at(&self, survey: &Survey<'_>, place: usize) -> u128
-        requires asker { IsAskerFor survey.now.graph.now survey.now.requests.now self.now }
-        requires fits { FitsPoint survey.now.graph.now survey.now.point.now }
-        requires requests { ArePathsOf survey.now.graph.now survey.now.requests.now }
-        requires place { place < length self.now.order }
-        ensures { lead_at survey.now.graph.now survey.now.point.now
-            (request_seen survey.now self.now place) ≤ result }
-    {
-        let first = self.outlook_at(survey, place);
-        let mut limit = least_lead(&first);
-        for later in place..self.places() {
-            let other = self.outlook_at(survey, later);
-            if !share(first.request, other.request) {
-                return limit;
-            }
-            limit = limit.max(least_lead(&other));
-        }
-        limit
+        outlook_of(survey, self.number_at(place))
     }
 
     /// Sees to it that the room has the distances that serve the request at a place of the order. It keeps those that
@@ -159,14 +139,9 @@ impl Asker {
         ensures ready { IsReadyToCompare survey.now.graph.now survey.now.point.now
             (request_seen survey.now self.old place) self.new.room result }
     {
-        let outlook = self.outlook_at(survey, place);
-        if let Some(shared) = shared {
-            if serves(&shared, &outlook) {
-                return shared;
-            }
-        }
-        let limit = self.limit_at(survey, place);
-        look(&outlook, limit, &mut self.room)
+        let order = self.order.as_slice();
+        let outlook_at = |later: usize| outlook_of(survey, order[later]);
+        prepare(outlook_at, place..order.len(), shared, &mut self.room)
     }
 
     /// Whether the path of the request at a place of the order leads by the scale; the room has the distances that

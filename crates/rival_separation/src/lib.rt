@@ -12,5 +12,5 @@ pub use asker::Asker;
 pub use deviation::{Deviation, better_by, onward};
 pub use outlook::Outlook;
 pub use rival::{Rival, cheapest_rival, find_distances, find_rival, least_lead, leave_by};
-pub use shared::{Shared, look, serves, share, sorted_numbers, target_of};
+pub use shared::{Shared, prepare, sorted_numbers, target_of};
 pub use told::{nothing_told, tell};

@@ -1,8 +1,8 @@
 //! What asks for the outsiders of several sets at one point.
-ghost use Rattle.std.specs.Prelude.{◌≡◌, ◌<◌, ◌≤◌, ◌↔◌, ℕ, All, IfOk, IsTrue, MatchBool, length, slice_index};
+ghost use Rattle.std.specs.Prelude.{◌≡◌, ◌<◌, ◌↔◌, ℕ, All, IfOk, IsTrue, MatchBool, length, slice_index};
 ghost use Rattle.area_graph.specs.Costs.{cost};
 ghost use Rattle.form_search.specs.Sources.{IsCostPoint};
-ghost use Rattle.rival_separation.specs.Askers.{CanCompareWith, IsReadyToCompare, MayShare, lead_at};
+ghost use Rattle.rival_separation.specs.Askers.{CanCompareWith, IsReadyToCompare, MayShare};
 ghost use Rattle.rival_separation.specs.Outlooks.{FitsOutlook, HasItsPath};
 ghost use Rattle.spread_sets.specs.MemberSets.{HasTree, IsMemberSet, sets_in};
 ghost use Rattle.spread_sets.specs.SetAskers.{AreOutsidersIfAny, IsAskerOfSets, IsOutsiderIfAny, first_request};
@@ -14,9 +14,7 @@ use crate::member_sets::{MemberSet, first_of, most_places, request_of};
 use area_graph::{Point, path_cost};
 use cost_base::{Listed, OutOfMemory};
 use design_problem::{Problem, Request, keeps_problem_on_graph};
-use rival_separation::{
-    Outlook, Shared, least_lead, look, nothing_told, serves, share, sorted_numbers, target_of, tell,
-};
+use rival_separation::{Outlook, Shared, nothing_told, prepare, sorted_numbers, target_of, tell};
 use set_separation::{find_outsider_at_hand, paths_lead};
 use spf_ties::Room;
 use std::alloc::Global;
@@ -72,12 +70,32 @@ fn set_of_number(sets: &[MemberSet], number: usize) -> &MemberSet
     &sets[number]
 }
 
-/// The request of a set's first member.
-fn request_in<'a>(problem: &'a Problem, set: &MemberSet) -> &'a Request
-    requires { IsMemberSet problem.now set.now.members }
-    ensures { result.now ≡ first_request problem.now set.now.members }
+/// The request of the first member of the set of a number, as a part of a survey.
+fn outlook_of<'a>(survey: &SetSurvey<'a>, number: usize) -> Outlook<'a>
+    // The point is one of costs, and the number is that of a set.
+    requires point { IsCostPoint (length survey.now.problem.now.low) survey.now.point.now }
+    requires number { number < length survey.now.sets.now }
+    requires set { IsMemberSet survey.now.problem.now
+        (member_set_at survey.now.sets.now number).members }
+
+    // It has the problem's graph, the point, and the request that the set's outsiders are of.
+    ensures graph { result.graph.now ≡ survey.now.problem.now.graph }
+    ensures request { result.request.now ≡ first_request survey.now.problem.now
+        (member_set_at survey.now.sets.now number).members }
+    ensures point { result.point.now ≡ survey.now.point.now }
+
+    // The request's path is a simple path of it, and the point is one for the graph.
+    ensures fits { FitsOutlook result }
+    ensures path { HasItsPath result }
 {
-    request_of(problem, first_of(set.members.as_slice()))
+    let problem = survey.problem;
+    keeps_problem_on_graph(problem);
+    let set = set_of_number(survey.sets, number);
+    Outlook {
+        graph: &problem.graph,
+        request: request_of(problem, first_of(set.members.as_slice())),
+        point: survey.point,
+    }
 }
 
 /// What a wanted path costs at a point.
@@ -167,34 +185,7 @@ impl SetAsker {
         ensures fits { FitsOutlook result }
         ensures path { HasItsPath result }
     {
-        let problem = survey.problem;
-        keeps_problem_on_graph(problem);
-        Outlook {
-            graph: &problem.graph,
-            request: request_in(problem, self.set_at(survey.sets, place)),
-            point: survey.point,
-        }
-    }
-
-    /// Up to which limit distances serve the set at a place of the order, and those behind it that share them: each of
-    /// their outsiders that is too cheap costs less.
-    fn limit_at(&self, survey: &SetSurvey<'_>, place: usize) -> u128
-        requires asker { IsAskerOfSets survey.now.problem.now survey.now.sets.now self.now }
-        requires point { IsCostPoint (length survey.now.problem.now.low) survey.now.point.now }
-        requires place { place < length self.now.order }
-        ensures { lead_at survey.now.problem.now.graph survey.now.point.now (first_request
-            survey.now.problem.now (members_seen survey.now self.now place)) ≤ result }
-    {
-        let first = self.outlook_at(survey, place);
-        let mut limit = least_lead(&first);
-        for later in place..self.places() {
-            let other = self.outlook_at(survey, later);
-            if !share(first.request, other.request) {
-                return limit;
-            }
-            limit = limit.max(least_lead(&other));
-        }
-        limit
+        outlook_of(survey, self.number_at(place))
     }
 
     /// Sees to it that the room has the distances that serve the set at a place of the order. It keeps those that it
@@ -223,14 +214,9 @@ impl SetAsker {
             (first_request survey.now.problem.now (members_seen survey.now self.old place))
             self.new.room result }
     {
-        let outlook = self.outlook_at(survey, place);
-        if let Some(shared) = shared {
-            if serves(&shared, &outlook) {
-                return shared;
-            }
-        }
-        let limit = self.limit_at(survey, place);
-        look(&outlook, limit, &mut self.room)
+        let order = self.order.as_slice();
+        let outlook_at = |later: usize| outlook_of(survey, order[later]);
+        prepare(outlook_at, place..order.len(), shared, &mut self.room)
     }
 
     /// Whether the members of the set at a place of the order, which tie, lead by the scale: each outsider costs at
