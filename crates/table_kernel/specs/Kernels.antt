@@ -87,4 +87,4 @@ pub record IsKernel (k : Kernel) : Type 0 where
   pub shaped : IsShaped k
   pub bounded : IsBounded k
   pub tableau : IsTableau (stated k)
-  pub numbers : AreKernelNumbers k whole.unboxed
+  pub numbers : AreKernelNumbers k tableau.unboxed
