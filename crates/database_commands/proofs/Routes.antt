@@ -38,7 +38,7 @@ pub unknown_stops : (file : List ℕ) (id place : ℕ) (lsas : List Lsa) (next :
     → StopsAs (unless_unknown file id place lsas next) [] stop
 unknown_stops file id place lsas next stop unknown is =
     subst (λ b. StopsAs (cond b next (Refused (record { number = lsa_fault_number NoRouterId; file = file; line = place }))) [] stop) (sym unknown)
-    (refusal_stops (record { number = lsa_fault_number NoRouterId; file = file; line = place }) stop is)
+    (refusal_stops (List Lsa) (record { number = lsa_fault_number NoRouterId; file = file; line = place }) stop is)
 
 pub known_goes_on : (file : List ℕ) (id place : ℕ) (lsas : List Lsa) (next : Reading (List Lsa)) →
     list_any (is_router_of id) lsas ≡ true → unless_unknown file id place lsas next ≡ next

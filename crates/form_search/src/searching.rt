@@ -15,7 +15,7 @@ ghost use Rattle.form_search.specs.NextEntries.{IsSoundNext, after_round};
 use crate::at_box::next_at;
 use crate::desk::{Desk, Next};
 use crate::{FormPool, FormSource, Found};
-use cost_base::OutOfMemory;
+use cost_base::{Listed, OutOfMemory};
 use cut_advisors::{Advisor, tell};
 use design_problem::{CostBox, Entry, TreeBuilder};
 use std::alloc::Global;
@@ -32,10 +32,11 @@ fn first_tree(alloc: Global, variables: u32, costs: &CostBox) -> Result<TreeBuil
     }) }
     ensures ranges { OnOk result (IsCostsBox variables costs.now) }
 {
-    // For the prover: that each upper end has 16 bits is known once they are read.
-    let _ = costs.high.as_slice();
-    let copy = costs.copy(alloc)?;
-    TreeBuilder::start(alloc, copy)
+    let low = costs.low.copy(alloc)?;
+    // For the prover: a copy of the slice, since that each upper end has 16 bits is known once they are read.
+    let highs = costs.high.as_slice();
+    let high = Listed::from_slice(alloc, highs)?;
+    TreeBuilder::start(alloc, CostBox { low, high })
 }
 
 /// The tree with one more entry, of which the advisors are told.

@@ -1,5 +1,5 @@
 -- What was read one after another, and what stopped it.
-use Rattle.std.proofs.Common.{◌≡◌, ℕ, refl, sym, ap, subst, List, [], ◌∷◌, ◌++◌, append-nil, Option, Some, Result, Ok, Err}
+use Rattle.std.proofs.Common.{◌≡◌, ◌∙◌, ℕ, refl, sym, ap, subst, List, [], ◌∷◌, ◌++◌, append-nil, Option, Some, Result, Ok, Err}
 use Rattle.std.specs.Borrow.{Bor}
 use Rattle.cost_base.specs.declared.ShelfStop.{ShelfStop}
 use Rattle.cost_base.specs.declared.ShelfStop.TheVariants as shelf
@@ -90,16 +90,16 @@ pub gave_wanting : {A T : Type 0} (Given : List Taken → Type 0) (m : Reading A
 gave_wanting Given m Fits made a = record { came = a.came; given = a.given; so = ends_begin m a.came (Says a.so.said) a.so.ends }
 
 -- a refusal stops the reading that it ends
-pub refusal_stops : {A : Type 0} (r : InputRefusal) (stop : Stop) → IsRefusal r stop → StopsAs {A = A} (Refused r) [] stop
-refusal_stops r (stops.Refused number file line) is = ap Faulty (sym is)
-refusal_stops r (stops.ReadFault file) is = absurd is
-refusal_stops r stops.OutOfMemory is = absurd is
+pub refusal_stops : (A : Type 0) (r : InputRefusal) (stop : Stop) → IsRefusal r stop → StopsAs {A = A} (Refused r) [] stop
+refusal_stops A r (stops.Refused number file line) is = ap Faulty (sym is)
+refusal_stops A r (stops.ReadFault file) is = absurd is
+refusal_stops A r stops.OutOfMemory is = absurd is
 
 -- a fault stops what is said without one
 pub fault_stops : {A X : Type 0} (refused : X → InputRefusal) (said : A) (found : Option X) (fault : X) (stop : Stop) →
     found ≡ Some fault → IsRefusal (refused fault) stop → StopsAs (unless_refused refused said found) [] stop
 fault_stops {A} {X} refused said found fault stop is told =
-    subst (λ (f : Option X). StopsAs (unless_refused refused said f) [] stop) (sym is) (refusal_stops (refused fault) stop told)
+    subst (λ (f : Option X). StopsAs (unless_refused refused said f) [] stop) (sym is) (refusal_stops A (refused fault) stop told)
 
 -- want of memory stops what reads no file
 pub memory_stops : {A : Type 0} (m : Reading A) (stop : Stop) → stop ≡ stops.OutOfMemory → StopsAs m [] stop

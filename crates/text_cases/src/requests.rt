@@ -88,10 +88,10 @@ impl<'a> fmt::Display for Shown<'a> {
                 write!(f, "line {line}: {} symmetric", Of(router, interface))
             }
             Directive::Path(hops, without) => {
-                let (hops, without) = (HopWords(hops.as_slice()), Without(without.as_slice()));
+                let (hop_words, without) = (HopWords(hops.as_slice()), Without(without.as_slice()));
                 write!(
                     f,
-                    "line {line}: path{hops} to {}{without}",
+                    "line {line}: path{hop_words} to {}{without}",
                     Called(hops.last())
                 )
             }

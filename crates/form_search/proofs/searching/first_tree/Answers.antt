@@ -11,8 +11,8 @@ returns-clause-ranges c =
       is_box = c.requires.ranges;
       lows = c.requires.lows;
       highs = λ k d k_in.
-          let read : slice_index c.as_slice.result.now k < 65536 = search rules in
-          let here : slice_index c.args.costs.now.high k < 65536 = subst (λ (hs : List ℕ). slice_index hs k < 65536) c.as_slice.ensures read in
+          let read : slice_index c.as_slice-highs.result.now k < 65536 = search rules in
+          let here : slice_index c.args.costs.now.high k < 65536 = subst (λ (hs : List ℕ). slice_index hs k < 65536) c.as_slice-highs.ensures read in
           subst (λ (x : ℕ). x ≤ 65535) (get_or_default c.args.costs.now.high k 0 d k_in) (omega (arith, here));
       few = omega (arith, c.ranges.variables);
     })

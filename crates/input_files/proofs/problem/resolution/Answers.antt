@@ -25,8 +25,8 @@ returns-in-Ok-clause-read c =
       fits = c.in-Ok.ensures.made.1;
     }
 
-pub returns-clause-read : goal.returns-clause-read
-returns-clause-read c =
+pub returns-in-Err-clause-read : goal.returns-in-Err-clause-read
+returns-in-Err-clause-read c =
     resolution_stops (files_named c.args.words) c.args.lsdb.now (viewed_problem c.args.view c.args.request_file.now c.args.lsdb.now)
     (viewed_fault c.args.view c.args.request_file.now c.args.lsdb.now) c.in-Err.refusal c.stop_of_resolution.result
     c.in-Err.ensures.refused c.stop_of_resolution.ensures

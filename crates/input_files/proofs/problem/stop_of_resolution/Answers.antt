@@ -13,6 +13,6 @@ returns-in-Refused c =
     let place = resolution_place (files_named c.args.words) c.args.lsdb.now fault in
     rw c.in-Refused.is
     (subst (λ (line : ℕ). IsRefusal (place_refused resolution_fault_number place.file (fault, line)) c.stop_of.result)
-    (sym (ap (λ (p : FilePlace). p.line) c.place_of.ensures))
-    (refusal_by resolution_fault_number c.at.result fault c.place_of.result.1 c.place_of.result.0 place.file c.stop_of.result
-    c.at.ensures c.stop_of.ensures (sym (ap (λ (p : FilePlace). p.file) c.place_of.ensures))))
+    (sym (ap (λ (p : FilePlace). p.line) c.place_of-line.ensures))
+    (refusal_by resolution_fault_number c.at.result fault c.place_of-line.result.1 c.place_of-line.result.0 place.file c.stop_of.result
+    c.at.ensures c.stop_of.ensures (sym (ap (λ (p : FilePlace). p.file) c.place_of-line.ensures))))
