@@ -90,7 +90,7 @@ in_step_more now forms row in_step is differ = record {
 }
 
 pub too_cheap_not : (p : DesignProblem) (point : Point) (set es : List ℕ) → IsOutsiderTooCheap p point set es → Shares p point set → ⊥
-too_cheap_not p point set es cheap shares = (let more = shares.dearer es cheap.rival in let less = cheap.cheap in absurd (omega arith))
+too_cheap_not p point set es cheap shares = (let more = shares.dearer es cheap.outsider in let less = cheap.cheap in absurd (omega arith))
 
 row_added : (point : Point) (count : ℕ) (p : DesignProblem) (sets : List (List ℕ)) (old_rows : List SetRow)
     (old_forms : List Form) (rows : List SetRow) (forms : List Form) (asked : Asked) (outsider : List ℕ) →

@@ -66,10 +66,10 @@ asker_kept p sets old new same is = subst (IsAskerOfSets p sets) (sym same)
 -- The request of a set's first member, under the names by which code has read it.
 
 -- the graph, the request and the point that code has read are those of a set
-pub record IsSeenAs (p : DesignProblem) (point : Point) (set : List ℕ) (o : Outlook) : Type 0 where
+pub record IsSeenAs (p : DesignProblem) (here : Point) (set : List ℕ) (o : Outlook) : Type 0 where
   pub graph : o.graph.now ≡ p.graph
   pub request : o.request.now ≡ first_request p set
-  pub point : o.point.now ≡ point
+  pub point : o.point.now ≡ here
 
 -- what holds of what was read holds of the set
 seen_as : (p : DesignProblem) (point : Point) (set : List ℕ) (o : Outlook) (P : Area → Request → Point → Type 0) →
