@@ -82,11 +82,11 @@ after_greatest_bound p (Undecided tree) = record {
 
 -- The answer tells what was found: these costs, if any, and these two trees at their caps, if any, with new numbers of
 -- rows.
-pub record TellsFound (p : DesignProblem) (found : Option (List ℕ)) (refuted undecided : Option CapTree) (a : AnswerParts) : Type 0 where
+pub record TellsFound (p : DesignProblem) (found : Option (List ℕ)) (refuted unclosed : Option CapTree) (a : AnswerParts) : Type 0 where
   pub costs : ArePrintedIfAny p found a.costs
   pub number : ℕ → ℕ
   pub proof : HasNumbers number refuted a.proof
-  pub undecided : HasNumbers number undecided a.undecided
+  pub undecided : HasNumbers number unclosed a.undecided
 
 -- the answer tells what the caps have come to
 abbrev pub TellsCaps : DesignProblem → CapsSoFar → AnswerParts → Type 0
