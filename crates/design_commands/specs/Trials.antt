@@ -4,7 +4,7 @@ use Rattle.std.specs.List.{sum, zip}
 use Rattle.cost_base.specs.declared.Status.{Status}
 use Rattle.cost_base.specs.declared.Status.TheVariants.{Done, Impossible, Undecided, InputRefused}
 use Rattle.cost_base.specs.Decimal.{decimal}
-use Rattle.line_builder.specs.Words.{line_of_words}
+use Rattle.line_builder.specs.Words.{with_words}
 use Rattle.trial_maker.specs.declared.TrialTexts.{TrialTexts}
 use Rattle.trial_maker.specs.TrialTexts.{made_trial}
 use Rattle.design_problem.specs.Problems.{DesignProblem}
@@ -13,7 +13,7 @@ use Rattle.design_problem.specs.declared.answer.Verdict.{Verdict}
 use Rattle.design_problem.specs.declared.answer.Verdict.TheVariants.{Optimal, Impossible as ByNone, Undecided as ByBudget}
 use Rattle.design_problem.specs.Answers.{AnswerParts, lines_in}
 use Rattle.design_problem.specs.GivenCosts.{costs_given}
-use Rattle.design_problem.specs.Text.{text}
+use Rattle.design_problem.specs.Text.{spaced, text}
 use Rattle.evidence_text.specs.AnswerValues.{IsAnswerValue}
 use Rattle.wide_fraction.specs.SearchLimits.{SearchLimits}
 use Rattle.input_files.specs.declared.problem.View.TheVariants.{AsRequested}
@@ -37,7 +37,8 @@ trial_words blocks start =
 -- the summary line of a trial: what it is made of, and `verdict V greatest G total C`
 abbrev pub summary_line : ℕ → ℕ → List ℕ → List ℕ → List ℕ → List ℕ
 summary_line blocks start verdict greatest total =
-    line_of_words (trial_words blocks start ++ codes "verdict" ∷ verdict ∷ codes "greatest" ∷ greatest ∷ codes "total" ∷ total ∷ [])
+    with_words (spaced (trial_words blocks start))
+    (codes "verdict" ∷ verdict ∷ codes "greatest" ∷ greatest ∷ codes "total" ∷ total ∷ []) ++ 10 ∷ []
 
 -- the summary line of a trial without best costs
 abbrev pub costless_line : ℕ → ℕ → List ℕ → List ℕ

@@ -2,6 +2,7 @@
 ghost use Rattle.std.specs.Prelude.{◌≡◌, [], ◌∷◌, ◌++◌, ◌≤◌, IfOk, OnOk, codes};
 ghost use Rattle.cost_base.specs.Decimal.{decimal};
 ghost use Rattle.design_problem.specs.Text.{spaced};
+ghost use Rattle.line_builder.specs.Words.{with_words};
 ghost use Rattle.design_commands.specs.Trials.{costless_line, summary_line, trial_words};
 
 use cost_base::OutOfMemory;
@@ -46,8 +47,8 @@ fn line_of_verdict(
     verdict: &[u8],
 ) -> Result<LineBuilder, OutOfMemory>
     requires { trial.blocks ≤ 125 }
-    ensures { IfOk result (λ line. line ≡ spaced (trial_words trial.blocks trial.start ++
-        codes "verdict" ∷ verdict.now ∷ codes "greatest" ∷ [])) }
+    ensures { IfOk result (λ line. line ≡ with_words (spaced (trial_words trial.blocks trial.start))
+        (codes "verdict" ∷ verdict.now ∷ codes "greatest" ∷ [])) }
 {
     let mut line = trial_part(alloc, trial)?;
     line.word(b"verdict")?;
@@ -85,6 +86,8 @@ pub(crate) fn costless_line(
         verdict.now) }
 {
     let mut line = line_of_verdict(alloc, trial, verdict)?;
-    line.word(b"none total none")?;
+    line.word(b"none")?;
+    line.word(b"total")?;
+    line.word(b"none")?;
     line.ended()
 }

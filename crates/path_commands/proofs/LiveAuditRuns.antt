@@ -85,7 +85,7 @@ running_reported names laid lsas asked d missing p found bytes report are made a
     })
   where
     moved : (read : DesignProblem) → p ≡ read → AllZip (IsFoundLive read.graph
-        (edges_of_links (running_database laid lsas) read.graph (missing_links (routers_of laid.files) lsas laid.database.links))) read.paths found
+        (edges_of_links (running_database laid lsas) read.graph (missing_links (routers_of laid.files) lsas laid.database.links))) read.requests found
     moved read same =
         subst (λ (q : DesignProblem). AllZip (IsFoundLive q.graph (edges_of_links (running_database laid lsas) q.graph
         (missing_links (routers_of laid.files) lsas laid.database.links))) q.requests found) same
