@@ -1,7 +1,8 @@
 """Checks what the documents claim and a machine can tell. It is run by hand, from any folder:
 
-    python3 bench/documents.py          counts, edges of the map, names, definitions, words of commands, statuses,
-                                        refusal numbers, texts of help, quoted lines, links, what must be believed
+    python3 bench/documents.py          counts, edges of the map, names, paths, definitions, words of commands,
+                                        statuses, refusal numbers, texts of help, quoted lines, links, what must be
+                                        believed
     python3 bench/documents.py --run    besides, each command of the documents and of the texts of help, with the built
                                         program
 
@@ -17,6 +18,7 @@ A document says in comments that no reader sees what its commands print:
 A line that begins with `NAME=` in a block, or in backquotes as `NAME=VALUE`, sets a name for the commands behind it.
 It prints a line for each claim that fails, counts, and ends with status 1 where one did.
 """
+import glob
 import os
 import re
 import subprocess
@@ -513,6 +515,35 @@ def check_quotes(claims):
 PATH = re.compile(r"\b((?:docs|bench|examples|crates)/(?!NAME)[A-Za-z_0-9/.-]+\.(?:md|py|sh|txt|svg|rt|antt))\b")
 
 
+def spelled_out(path):
+    """The paths that a path with `{A,B}` stands for."""
+    group = re.search(r"\{([^{}]*)\}", path)
+    if not group:
+        return [path]
+    return [it for word in group.group(1).split(",")
+            for it in spelled_out(path[:group.start()] + word.strip() + path[group.end():])]
+
+
+def stands_below(crate, path):
+    """Whether a path of a crate is a file or a folder there, with or without its ending, or with a definition behind it
+    (`proofs/Trials.trial_asked`); `..` stands for any name."""
+    place = os.path.join(TOP, "crates", crate, path.replace("/..", "/*"))
+    file = re.sub(r"\.[a-z_0-9']+$", ".antt", place)
+    return bool(glob.glob(file)) or any(glob.glob(place + ending) for ending in ("", ".rt", ".antt", ".edit"))
+
+
+def check_paths(claims):
+    """A path `CRATE/(src|specs|proofs|must-fail)/..` in backquotes is one of that crate."""
+    named = set(crates())
+    for path in documents():
+        for number, line in enumerate(text_of(path).split("\n"), 1):
+            for quoted in re.findall(r"`([^`\s]+)`", line):
+                for one in spelled_out(quoted.rstrip(":,;").removeprefix("crates/")):
+                    crate, slash, rest = one.partition("/")
+                    if crate in named and re.match(r"(src|specs|proofs|must-fail)(/|$)", rest):
+                        claims.claim(stands_below(crate, rest.rstrip("/")), f"{path}:{number}", f"`{one}`: no such file")
+
+
 def check_links(claims):
     for path in documents():
         for number, line in without_blocks(text_of(path)):
@@ -638,6 +669,7 @@ def main(words):
     check_statuses(claims)
     check_help(claims)
     check_quotes(claims)
+    check_paths(claims)
     check_links(claims)
     check_believed(claims)
     if words:

@@ -44,12 +44,12 @@ def rivals(problem, into, out, cost, request):
     for place, wanted in enumerate(request.edges):
         router = problem.tail[wanted]
         barred.add(router)
-        far = distances(problem, into, cost, request.target, request.taken, barred)
-        leaving = [e for e in out[router] if e != wanted and e not in request.taken
+        far = distances(problem, into, cost, request.target, request.excluded, barred)
+        leaving = [e for e in out[router] if e != wanted and e not in request.excluded
                    and problem.head[e] not in barred and far[problem.head[e]] is not None]
         if leaving:
             edge = min(leaving, key=lambda e: cost[e] + far[problem.head[e]])
             if spent + cost[edge] + far[problem.head[edge]] < total + 1 - CLOSE:
-                rest = follow(problem, out, cost, far, problem.head[edge], request.target, request.taken, barred)
+                rest = follow(problem, out, cost, far, problem.head[edge], request.target, request.excluded, barred)
                 yield tuple(request.edges[:place]) + (edge,) + tuple(rest)
         spent += cost[wanted]

@@ -129,7 +129,7 @@ def lay_edges(network):
 
 @dataclass
 class Path:
-    """A wanted path by its interfaces, its last router, and the edges that a failure takes away."""
+    """A request: a wanted path by its interfaces, its last router, and the edges that it excludes."""
     hops: list
     target: int
     lost: set

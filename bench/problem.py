@@ -10,11 +10,11 @@ from dataclasses import dataclass, field
 
 @dataclass
 class Request:
-    """A wanted path, as its edges from its start on, and the edges that a failure takes away."""
+    """A request: a wanted path, as its edges from its start on, its end, and the edges that it excludes."""
     start: int
     target: int
     edges: list
-    taken: frozenset
+    excluded: frozenset
 
 
 @dataclass
@@ -164,13 +164,13 @@ def wanted(problem, hops, lost, number_of, edge_of, mate):
         return number_of[router], name
 
     edges = [edge_of[place(word)] for word in hops[:-1]]
-    taken = set()
+    excluded = set()
     for word in lost:
         if ':' in word:
-            taken |= {edge_of[place(word)], edge_of[mate[place(word)]]}
+            excluded |= {edge_of[place(word)], edge_of[mate[place(word)]]}
         else:
             router = number_of[word]
-            taken |= {e for e in range(len(problem.tail)) if router in (problem.tail[e], problem.head[e])}
+            excluded |= {e for e in range(len(problem.tail)) if router in (problem.tail[e], problem.head[e])}
     target = number_of[hops[-1]]
     start = problem.tail[edges[0]] if edges else target
-    return Request(start, target, edges, frozenset(taken))
+    return Request(start, target, edges, frozenset(excluded))

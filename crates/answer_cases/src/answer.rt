@@ -3,9 +3,25 @@
 use crate::begun::{begun_text, longest_text};
 use crate::lines::{heads_text, line_text};
 use crate::texts::{parts_text, put_text, read_text};
-use case_scripts::Texts;
+use case_scripts::{Script, Texts};
 use cost_base::OutOfMemory;
 use std::alloc::{AllocError, Global};
+use std::io;
+
+/// The texts of a script.
+#[derive(Drop)]
+pub struct Scene {
+    texts: Texts,
+}
+
+impl Scene {
+    /// No text.
+    pub(crate) fn new(alloc: Global) -> Scene {
+        Scene {
+            texts: Texts::new(alloc),
+        }
+    }
+}
 
 /// What is answered to a line that asks of the last text or of a line, in which `more` is what it says. The last text
 /// with this behind it is `bytes`.
@@ -21,8 +37,8 @@ fn asked(alloc: Global, bytes: &[u8], first: &str, more: &str) -> Result<String,
     }
 }
 
-/// What is answered to a line, to stand behind it.
-pub(crate) fn answer(alloc: Global, texts: &mut Texts, line: &str) -> Result<String, AllocError> {
+/// What is answered to a line.
+fn reply(alloc: Global, texts: &mut Texts, line: &str) -> Result<String, AllocError> {
     if texts.takes(alloc, line)? {
         return Ok(String::new(alloc));
     }
@@ -31,5 +47,11 @@ pub(crate) fn answer(alloc: Global, texts: &mut Texts, line: &str) -> Result<Str
     match asked(alloc, bytes.as_slice(), first, more) {
         Ok(text) => Ok(text),
         Err(_) => Err(AllocError),
+    }
+}
+
+impl Script for Scene {
+    fn answer(&mut self, alloc: Global, line: &str) -> io::Result<String> {
+        Ok(reply(alloc, &mut self.texts, line)?)
     }
 }

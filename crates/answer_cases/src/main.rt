@@ -10,25 +10,11 @@ mod begun;
 mod lines;
 mod texts;
 
-use case_scripts::Texts;
+use crate::answer::Scene;
+use case_scripts::play_all;
 use std::io;
 
-/// Writes a line, and behind it what is answered.
-fn play(rt: HostRuntime, texts: &mut Texts, line: &str) -> io::Result<()> {
-    let text = answer::answer(rt.alloc(), texts, line)?;
-    println!(rt; "{line}{text}")
-}
-
-/// Plays each line of standard input.
-fn play_all(rt: HostRuntime, texts: &mut Texts) -> io::Result<()> {
-    for line in rt.lines(rt.alloc()) {
-        let line = line?;
-        play(rt, texts, line.as_str())?;
-    }
-    Ok(())
-}
-
 fn main(rt: HostRuntime) -> io::Result<()> {
-    let mut texts = Texts::new(rt.alloc());
-    play_all(rt, &mut texts)
+    let mut scene = Scene::new(rt.alloc());
+    play_all(&rt, &mut scene)
 }

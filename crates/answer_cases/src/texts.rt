@@ -46,8 +46,8 @@ fn answer_text(alloc: Global, answer: &Answer) -> Result<String, AllocError> {
         text.push_str(", a rival")?;
     }
     let has_proof = answer.proof.is_some();
-    let is_unfinished = answer.unfinished.is_some();
-    format!(in alloc; "{text}, proof {has_proof}, open {is_unfinished}")
+    let is_undecided = answer.undecided.is_some();
+    format!(in alloc; "{text}, proof {has_proof}, open {is_undecided}")
 }
 
 /// Whether an answer comes back where it is put.
@@ -93,7 +93,7 @@ fn put_parts(answer: &Answer, sink: &mut MemorySink) -> Result<(), PutFailed> {
     put_costs(answer.costs.as_ref(), sink)?;
     put_rows(answer.rows.as_slice(), sink)?;
     put_tree(TreePart::Proof, answer.proof.as_ref(), sink)?;
-    put_tree(TreePart::Unfinished, answer.unfinished.as_ref(), sink)
+    put_tree(TreePart::Undecided, answer.undecided.as_ref(), sink)
 }
 
 /// Whether all was put, and the lines that a sink got.

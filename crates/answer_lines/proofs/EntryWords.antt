@@ -11,8 +11,8 @@ use Rattle.design_problem.specs.declared.tree.Member.TheVariants.{Low, High, Row
 use Rattle.design_problem.specs.declared.tree.Entry.{Entry}
 use Rattle.design_problem.specs.declared.tree.Entry.TheVariants.{Tighten, Split, Halve, Refute, Undone}
 use Rattle.design_problem.specs.declared.tree.WideAt.{WideAt}
-use Rattle.design_problem.specs.Bounds.{IsIndex, IsCost, IsRowNumber, BoundsMember, BoundsParts, BoundsEntry}
-use Rattle.design_problem.specs.Text.{side_word, member_words, members_words, part_words, step_word, ratio_word, entry_line, spaced, FitsEntry}
+use Rattle.design_problem.specs.AnswerRanges.{IsIndex, IsCost, IsRowNumber, BoundsMember, BoundsParts, BoundsEntry}
+use Rattle.design_problem.specs.Text.{side_word, member_words, members_words, multiplier_words, step_word, ratio_word, entry_line, spaced, FitsEntry}
 use Rattle.answer_lines.specs.Words.{entry_words, SaysEntry, SaysNoEntry}
 use Rattle.std.proofs.Common.{get_or}
 use Rattle.std.specs.Prelude.{AllPairs}
@@ -55,7 +55,7 @@ only_halve ws h Undone says = other_kind 104 111 _ _ _ _ (λ e. omega arith) say
 
 -- words that say no Refute say nothing behind its name
 pub only_refute : (ws : List (List ℕ)) →
-    ((ps : List (ℕ × ℕ)) → BoundsParts ps → ps ≢ [] → All (λ part. part.1 < 10 ^ 31) ps → ws ≢ part_words ps) →
+    ((ps : List (ℕ × ℕ)) → BoundsParts ps → ps ≢ [] → All (λ part. part.1 < 10 ^ 31) ps → ws ≢ multiplier_words ps) →
     SaysNoEntry (codes "refute" ∷ ws)
 only_refute ws h (Tighten v side b row) says = other_kind 114 116 _ _ _ _ (λ e. omega arith) says.is
 only_refute ws h (Split v b) says = other_kind 114 115 _ _ _ _ (λ e. omega arith) says.is
@@ -155,20 +155,20 @@ no_member_more (x ∷ xs) (m ∷ ms) left all e some none =
     no_member_more xs ms left (All-tail BoundsMember m ms all)
     (same_rest m x (members_words ms) (members_words xs ++ left) (e ∙ append_assoc (member_words x) (members_words xs) left)) some none
 
-part_words-append : (xs ys : List (ℕ × ℕ)) → part_words (xs ++ ys) ≡ part_words xs ++ part_words ys
-part_words-append [] ys = refl
-part_words-append (x ∷ xs) ys = ap (λ l. decimal x.0 ∷ decimal x.1 ∷ l) (part_words-append xs ys)
+multiplier_words-append : (xs ys : List (ℕ × ℕ)) → multiplier_words (xs ++ ys) ≡ multiplier_words xs ++ multiplier_words ys
+multiplier_words-append [] ys = refl
+multiplier_words-append (x ∷ xs) ys = ap (λ l. decimal x.0 ∷ decimal x.1 ∷ l) (multiplier_words-append xs ys)
 
 -- one more row with its multiplier
-pub part_more : (words left rest : List (List ℕ)) (xs : List (ℕ × ℕ)) (p : ℕ × ℕ) → words ≡ part_words xs ++ left →
-    left ≡ decimal p.0 ∷ decimal p.1 ∷ rest → words ≡ part_words (xs ++ p ∷ []) ++ rest
+pub part_more : (words left rest : List (List ℕ)) (xs : List (ℕ × ℕ)) (p : ℕ × ℕ) → words ≡ multiplier_words xs ++ left →
+    left ≡ decimal p.0 ∷ decimal p.1 ∷ rest → words ≡ multiplier_words (xs ++ p ∷ []) ++ rest
 part_more words left rest xs p e next =
-    e ∙ ap (λ l. part_words xs ++ l) next ∙ sym (append_assoc (part_words xs) (decimal p.0 ∷ decimal p.1 ∷ []) rest)
-    ∙ ap (λ l. l ++ rest) (sym (part_words-append xs (p ∷ [])))
+    e ∙ ap (λ l. multiplier_words xs ++ l) next ∙ sym (append_assoc (multiplier_words xs) (decimal p.0 ∷ decimal p.1 ∷ []) rest)
+    ∙ ap (λ l. l ++ rest) (sym (multiplier_words-append xs (p ∷ [])))
 
 -- parts go on where the words that were read do
-pub parts_go_on : (xs ps : List (ℕ × ℕ)) (left : List (List ℕ)) → part_words ps ≡ part_words xs ++ left →
-    (more : List (ℕ × ℕ)) × (ps ≡ xs ++ more) × (left ≡ part_words more)
+pub parts_go_on : (xs ps : List (ℕ × ℕ)) (left : List (List ℕ)) → multiplier_words ps ≡ multiplier_words xs ++ left →
+    (more : List (ℕ × ℕ)) × (ps ≡ xs ++ more) × (left ≡ multiplier_words more)
 parts_go_on [] ps left e = (ps, refl, sym e)
 parts_go_on (x ∷ xs) [] left e = absurd (cc)
 parts_go_on (x ∷ xs) (p ∷ ps) left e =
@@ -180,7 +180,7 @@ parts_go_on (x ∷ xs) (p ∷ ps) left e =
 
 -- rows and multipliers go on where the words that were read do
 pub no_part_more : (xs ps : List (ℕ × ℕ)) (left : List (List ℕ)) → BoundsParts ps → All (λ part. part.1 < 10 ^ 31) ps →
-    part_words ps ≡ part_words xs ++ left → left ≢ [] →
+    multiplier_words ps ≡ multiplier_words xs ++ left → left ≢ [] →
     ((row m : ℕ) (rest : List (List ℕ)) → IsRowNumber row → 0 < m → m < 10 ^ 31 → left ≢ decimal row ∷ decimal m ∷ rest) → ⊥
 no_part_more xs ps left bounds small e some none =
     let on = parts_go_on xs ps left e in
@@ -189,21 +189,21 @@ no_part_more xs ps left bounds small e some none =
     (All-right (λ part. part.1 < 10 ^ 31) xs on.0 (subst (λ l. All (λ part. part.1 < 10 ^ 31) l) on.1 small)) on.2
   where
     first : (more : List (ℕ × ℕ)) → All (λ part. IsRowNumber part.0) more → All (λ part. 0 < part.1) more →
-        All (λ part. part.1 < 10 ^ 31) more → left ≡ part_words more → ⊥
+        All (λ part. part.1 < 10 ^ 31) more → left ≡ multiplier_words more → ⊥
     first [] rows positive few is = some is
     first (p ∷ more) rows positive few is =
-        none p.0 p.1 (part_words more) (All-head (λ part. IsRowNumber part.0) p more rows)
+        none p.0 p.1 (multiplier_words more) (All-head (λ part. IsRowNumber part.0) p more rows)
         (All-head (λ part. 0 < part.1) p more positive) (All-head (λ part. part.1 < 10 ^ 31) p more few) is
 
 -- where a row doesn't come behind all, the words are no rising rows
 pub not_rising : (xs ps : List (ℕ × ℕ)) (left rest : List (List ℕ)) (p : ℕ × ℕ) (k : ℕ) → BoundsParts ps →
-    part_words ps ≡ part_words xs ++ left → left ≡ decimal p.0 ∷ decimal p.1 ∷ rest →
+    multiplier_words ps ≡ multiplier_words xs ++ left → left ≡ decimal p.0 ∷ decimal p.1 ∷ rest →
     k < length xs → ((d : ℕ × ℕ) → p.0 ≤ (get_or xs k d).0) → ⊥
 not_rising xs ps left rest p k bounds e next within above =
     let on = parts_go_on xs ps left e in
     first on.0 (subst (λ l. AllPairs (λ a b. a.0 < b.0) l) on.1 bounds.rising) (sym on.2 ∙ next)
   where
-    first : (more : List (ℕ × ℕ)) → AllPairs (λ a b. a.0 < b.0) (xs ++ more) → part_words more ≡ decimal p.0 ∷ decimal p.1 ∷ rest → ⊥
+    first : (more : List (ℕ × ℕ)) → AllPairs (λ a b. a.0 < b.0) (xs ++ more) → multiplier_words more ≡ decimal p.0 ∷ decimal p.1 ∷ rest → ⊥
     first [] pairs is = absurd (cc)
     first (q ∷ more) pairs is =
         let same : q.0 ≡ p.0 = decimal-same q.0 p.0 (head-is _ _ _ _ is) in
@@ -214,7 +214,7 @@ pub members-some : (ms : List Member) → ms ≢ [] → members_words ms ≢ []
 members-some [] some e = some refl
 members-some (m ∷ ms) some e = some_words m (members_words ms) (sym e)
 
-pub parts-some : (ps : List (ℕ × ℕ)) → ps ≢ [] → part_words ps ≢ []
+pub parts-some : (ps : List (ℕ × ℕ)) → ps ≢ [] → multiplier_words ps ≢ []
 parts-some [] some e = some refl
 parts-some (p ∷ ps) some e = cc
 

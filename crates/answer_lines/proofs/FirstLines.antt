@@ -37,7 +37,8 @@ pub lacks-short : (place : TextPlace) (bytes : List ℕ) → AreReadAt place →
 lacks-short place bytes read h line left parts one lawful = h line left (record { parts = parts; one = one; short = read line lawful.1.short })
 
 -- a text whose first line isn't in the grammar has no lawful one
-pub lacks-first : (place : TextPlace) (bytes line left : List ℕ) → IsFirstInText bytes line left → ((next : TextPlace) → Next place line next → ⊥) → LacksLawful place bytes
+pub lacks-first : (place : TextPlace) (bytes line left : List ℕ) → IsFirstInText bytes line left → ((next : TextPlace) → Next place line next → ⊥) →
+    LacksLawful place bytes
 lacks-first place bytes line left first off other more parts one lawful =
     let same : line ≡ other = (first-one bytes line other left more first parts one).0 in
     off lawful.0 (subst (λ l. Next place l lawful.0) (sym same) lawful.1.is)
@@ -48,7 +49,11 @@ pub lacks-wanted : (place : TextPlace) (bytes wanted : List ℕ) → AreReadAt p
     ((left : List ℕ) → IsFirstInText bytes wanted left → ⊥) → LacksLawful place bytes
 lacks-wanted place bytes wanted read only h line left parts one lawful =
     let same : line ≡ wanted = only line lawful.0 lawful.1.is in
-    h left (record { parts = parts ∙ ap (λ l. l ++ 10 ∷ left) same; one = subst IsOneLine same one; short = subst (λ l. length l ≤ 65536) same (read line lawful.1.short) })
+    h left (record {
+      parts = parts ∙ ap (λ l. l ++ 10 ∷ left) same;
+      one = subst IsOneLine same one;
+      short = subst (λ l. length l ≤ 65536) same (read line lawful.1.short);
+    })
 
 -- one line is read
 pub read-one : (from to : TextPlace) (before after : ℕ) (bytes line left : List ℕ) → IsFirstInText bytes line left →

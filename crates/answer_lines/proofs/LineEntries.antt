@@ -14,8 +14,8 @@ use Rattle.design_problem.specs.declared.tree.Member.{Member}
 use Rattle.design_problem.specs.declared.tree.Member.TheVariants.{Low, High, Row}
 use Rattle.design_problem.specs.declared.tree.Entry.{Entry}
 use Rattle.design_problem.specs.declared.tree.Entry.TheVariants.{Tighten, Split, Halve, Refute, Undone}
-use Rattle.design_problem.specs.Bounds.{BoundsEntry}
-use Rattle.design_problem.specs.Text.{spaced, integer, side_word, step_word, ratio_word, members_words, part_words, entry_line, FitsEntry}
+use Rattle.design_problem.specs.AnswerRanges.{BoundsEntry}
+use Rattle.design_problem.specs.Text.{spaced, integer, side_word, step_word, ratio_word, members_words, multiplier_words, entry_line, FitsEntry}
 use Rattle.text_lines.specs.Numbers.{split}
 use Rattle.answer_lines.specs.Words.{entry_words, SaysEntry, SaysNoEntry}
 use Rattle.answer_lines.proofs.EntryWords.{entry_line-words}
@@ -52,7 +52,7 @@ members-plain (Low v b ∷ ms) = (spaceless-from (codes "low") refl, (decimal-sp
 members-plain (High v b ∷ ms) = (spaceless-from (codes "high") refl, (decimal-spaceless v, (decimal-spaceless b, members-plain ms)))
 members-plain (Row row ∷ ms) = (spaceless-from (codes "row") refl, (decimal-spaceless row, members-plain ms))
 
-parts-plain : (ps : List (ℕ × ℕ)) → Plain (part_words ps)
+parts-plain : (ps : List (ℕ × ℕ)) → Plain (multiplier_words ps)
 parts-plain [] = tt
 parts-plain (p ∷ ps) = (decimal-spaceless p.0, (decimal-spaceless p.1, parts-plain ps))
 

@@ -8,12 +8,12 @@ use Rattle.design_problem.specs.Text.{row_line}
 use Rattle.text_lines.specs.Numbers.{split}
 use Rattle.evidence_text.specs.Parts.{part_word, tree_line}
 use Rattle.evidence_text.specs.declared.TreePart.{TreePart}
-use Rattle.evidence_text.specs.declared.TreePart.TheVariants.{Proof, Unfinished}
+use Rattle.evidence_text.specs.declared.TreePart.TheVariants.{Proof, Undecided}
 use Rattle.answer_lines.proofs.SpacedWords.{spaceless-from, numbers-spaceless, to-words}
 
 part-spaceless : (part : TreePart) → HasNoSpace (part_word part)
 part-spaceless Proof = spaceless-from (codes "proof") refl
-part-spaceless Unfinished = spaceless-from (codes "open") refl
+part-spaceless Undecided = spaceless-from (codes "open") refl
 
 -- the words of the head of a tree
 pub tree-words : (line : List ℕ) (part : TreePart) (cap count : ℕ) → line ≡ tree_line part cap count →

@@ -1,9 +1,8 @@
 -- Words that are numbers.
-use Rattle.std.proofs.Common.{◌≡◌, ◌≢◌, ℕ, ◌≤◌, List, [], ◌∷◌, ◌++◌, All, map, arith, sym, ap, ◌∙◌, append_assoc}
-use Rattle.std.proofs.lemmas.List.{map-append}
-use Rattle.std.proofs.lemmas.List.Elements.{All-nil, All-cons, All-head, All-tail, All-append}
+use Rattle.std.proofs.Common.{◌≡◌, ◌≢◌, ℕ, ◌≤◌, List, [], ◌∷◌, ◌++◌, All, map, arith, sym}
+use Rattle.std.proofs.lemmas.List.Elements.{All-head, All-tail}
 use Rattle.cost_base.specs.Decimal.{decimal}
-use Rattle.design_problem.specs.Bounds.{IsIndex}
+use Rattle.design_problem.specs.AnswerRanges.{IsIndex}
 
 -- numbers go on where the words that were read do
 pub no_number : (xs ns : List ℕ) (left : List (List ℕ)) → All IsIndex ns → map decimal ns ≡ map decimal xs ++ left → left ≢ [] →
@@ -14,14 +13,3 @@ no_number [] (n ∷ ns) left all e some none =
     none n (map decimal ns) (omega arith) (sym e)
 no_number (x ∷ xs) [] left all e some none = cc
 no_number (x ∷ xs) (n ∷ ns) left all e some none = no_number xs ns left (All-tail IsIndex n ns all) (cc) some none
-
--- one more number
-pub number_more : (words left rest : List (List ℕ)) (xs : List ℕ) (n : ℕ) → words ≡ map decimal xs ++ left →
-    left ≡ decimal n ∷ rest → words ≡ map decimal (xs ++ n ∷ []) ++ rest
-number_more words left rest xs n e next =
-    e ∙ ap (λ l. map decimal xs ++ l) next ∙ sym (append_assoc (map decimal xs) (decimal n ∷ []) rest)
-    ∙ ap (λ l. l ++ rest) (sym (map-append decimal xs (n ∷ [])))
-
--- one more element
-pub All-more : {A : Type 0} (P : A → Type 0) (xs : List A) (x : A) → All P xs → P x → All P (xs ++ x ∷ [])
-All-more P xs x all here = All-append P xs (x ∷ []) all (All-cons P x [] here (All-nil P))

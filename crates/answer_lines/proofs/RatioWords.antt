@@ -42,7 +42,7 @@ digits-unslashed (c ∷ cs) digits =
     let low : 48 ≤ c = leb-true 48 c (and_parts (leb 48 c) (leb c 57) parts.0).0 in
     All-cons (λ x. eqb x 47 ≡ false) c cs (ne_eqb c 47 (λ e. omega arith)) (digits-unslashed cs parts.1)
 
-integer-unslashed : (z : ℤ) → All (λ c. eqb c 47 ≡ false) (integer z)
+pub integer-unslashed : (z : ℤ) → All (λ c. eqb c 47 ≡ false) (integer z)
 integer-unslashed (pos n) = digits-unslashed (decimal n) (decimal-digits n)
 integer-unslashed (negsuc n) = All-cons (λ x. eqb x 47 ≡ false) 45 (decimal (n + 1)) refl (digits-unslashed (decimal (n + 1)) (decimal-digits (n + 1)))
 

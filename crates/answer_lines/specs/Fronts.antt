@@ -1,7 +1,7 @@
 -- What a `halve` line says before its basis. No public clause cites it.
 use Rattle.std.specs.Prelude.{ℕ, List, ◌∷◌}
 use Rattle.cost_base.specs.Decimal.{decimal}
-use Rattle.design_problem.specs.Bounds.{IsIndex, IsCost}
+use Rattle.design_problem.specs.AnswerRanges.{IsIndex, IsCost}
 use Rattle.design_problem.specs.Text.{step_word, ratio_word, IsPrintedRatio}
 use Rattle.answer_lines.specs.declared.entries.HalveFront.{HalveFront}
 

@@ -1,5 +1,5 @@
--- The grammar of an answer's text, line by line: which lines may stand at a place, and where each leads; and that of the
--- other texts of which costs are read, those of `total`, `spread` and `change`.
+-- The grammar of an answer's text, line by line: which lines may stand at a place, and where each leads; and that of
+-- the other texts of which costs are read, those of `total`, `spread` and `change`.
 use Rattle.std.specs.Prelude.{◌≡◌, ◌≢◌, ℕ, zero, suc, ◌+◌, ◌<◌, ◌≤◌, ◌⊎◌, List, [], ◌∷◌, ◌++◌, if◌then◌else◌, codes, Option, Some, None}
 use Rattle.cost_base.specs.Decimal.{decimal}
 use Rattle.cost_base.specs.Lists.{same_bytes}
@@ -9,12 +9,12 @@ use Rattle.design_problem.specs.declared.form.Row.{Row}
 use Rattle.design_problem.specs.declared.tree.Entry.{Entry}
 use Rattle.design_problem.specs.declared.answer.Verdict.{Verdict}
 use Rattle.design_problem.specs.declared.answer.Floor.{Floor}
-use Rattle.design_problem.specs.Bounds.{IsIndex, IsCost, IsRowNumber, BoundsVerdict, BoundsFloor, BoundsRow, BoundsEntry}
-use Rattle.design_problem.specs.Text.{spaced, row_line, entry_line, FitsEntry}
+use Rattle.design_problem.specs.AnswerRanges.{IsIndex, IsCost, IsRowNumber, BoundsVerdict, BoundsFloor, BoundsRow, BoundsEntry}
+use Rattle.design_problem.specs.Text.{router_line, spaced, row_line, entry_line, FitsEntry, verdict_line, costs_line, interface_line, answer_cost_line, floor_line, rows_line}
 use Rattle.design_problem.specs.Trees.{subtree_count}
-use Rattle.evidence_text.specs.Parts.{verdict_line, costs_line, interface_line, answer_cost_line, floor_line, rows_line, no_tree_line, tree_line}
+use Rattle.evidence_text.specs.Parts.{no_tree_line, tree_line}
 use Rattle.evidence_text.specs.declared.TreePart.{TreePart}
-use Rattle.evidence_text.specs.declared.TreePart.TheVariants.{Proof, Unfinished}
+use Rattle.evidence_text.specs.declared.TreePart.TheVariants.{Proof, Undecided}
 use Rattle.answer_lines.specs.declared.other_text.OtherText.{OtherText}
 use Rattle.answer_lines.specs.declared.other_text.OtherText.TheVariants.{Total, Spread, Change}
 
@@ -39,7 +39,8 @@ pub data TextPlace : Type 0 where
   AtTree : TreePart → ℕ → ℕ → TextPlace
   AtEnd : TextPlace
   AfterEnd : TextPlace
-  -- before the first line of another text, in `total`'s before that of the answer inside, before the verdict and the costs
+  -- before the first line of another text, in `total`'s before that of the answer inside, before the verdict and the
+  -- costs
   AtOtherHead : OtherText → TextPlace
   AtInnerHead : TextPlace
   AtOtherVerdict : OtherText → TextPlace
@@ -48,10 +49,6 @@ pub data TextPlace : Type 0 where
   AtSectionsEnd : OtherText → TextPlace
   -- among the lines that nobody reads, with how many lines `end` still stand before the last one
   AtUnread : ℕ → TextPlace
-
--- the line `router R` of a section
-abbrev pub router_line : List ℕ → List ℕ
-router_line name = spaced (codes "router" ∷ name ∷ [])
 
 -- the line of a router that isn't that of the cost line before, which leads to an interface
 pub record IsRouterNext (text : Option OtherText) (before : Option (List ℕ)) (line : List ℕ) (next : TextPlace) : Type 0 where
@@ -190,7 +187,8 @@ abbrev pub inner_ends : OtherText → ℕ
 inner_ends Total = 1
 inner_ends text = 0
 
--- the line that ends the sections, and where it leads: in an answer to the rows, in another text among lines that nobody reads
+-- the line that ends the sections, and where it leads: in an answer to the rows, in another text among lines that
+-- nobody reads
 abbrev pub IsEndNext : Option OtherText → List ℕ → TextPlace → Type 0
 IsEndNext None line next = IsFloorNext line next
 IsEndNext (Some text) line next = IsSectionsEnd text line × (next ≡ AtUnread (inner_ends text))
@@ -204,7 +202,8 @@ behind_end (suc more) = AtUnread more
 abbrev pub behind_unread : ℕ → List ℕ → TextPlace
 behind_unread more line = if same_bytes line (codes "end") then behind_end more else AtUnread more
 
--- the lines that are in the grammar at a place, and where they lead. Nothing is where a tree has lines left over and no open place, or the other way round.
+-- the lines that are in the grammar at a place, and where they lead. Nothing is where a tree has lines left over and no
+-- open place, or the other way round.
 abbrev pub Next : TextPlace → List ℕ → TextPlace → Type 0
 Next AtHead line next = (line ≡ answer_head) × (next ≡ AtVerdict)
 Next AtVerdict line next = IsVerdictNext line next
@@ -220,8 +219,8 @@ Next (AtRow (suc left)) line next = IsRowNext left line next
 Next (AtTree part (suc places) (suc left)) line next = IsEntryNext part places left line next
 Next (AtTree part zero (suc left)) line next = ⊥
 Next (AtTree part (suc places) zero) line next = ⊥
-Next (AtTree Proof zero zero) line next = IsPartNext Unfinished line next
-Next (AtTree Unfinished zero zero) line next = (line ≡ codes "wide none") × (next ≡ AtEnd)
+Next (AtTree Proof zero zero) line next = IsPartNext Undecided line next
+Next (AtTree Undecided zero zero) line next = (line ≡ codes "wide none") × (next ≡ AtEnd)
 Next AtEnd line next = (line ≡ codes "end") × (next ≡ AfterEnd)
 Next AfterEnd line next = ⊥
 Next (AtOtherHead text) line next = (line ≡ other_head text) × (next ≡ behind_other_head text)

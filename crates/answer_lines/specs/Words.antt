@@ -4,8 +4,8 @@ use Rattle.std.specs.Option.{option_copied}
 use Rattle.cost_base.specs.Decimal.{decimal}
 use Rattle.design_problem.specs.declared.tree.Entry.{Entry}
 use Rattle.design_problem.specs.declared.tree.Entry.TheVariants.{Tighten, Split, Halve, Refute, Undone}
-use Rattle.design_problem.specs.Bounds.{BoundsEntry}
-use Rattle.design_problem.specs.Text.{side_word, step_word, ratio_word, members_words, part_words, FitsEntry}
+use Rattle.design_problem.specs.AnswerRanges.{BoundsEntry}
+use Rattle.design_problem.specs.Text.{side_word, step_word, ratio_word, members_words, multiplier_words, FitsEntry}
 use Rattle.text_lines.specs.Numbers.{split}
 use Rattle.answer_lines.specs.declared.words.Pieces.{Pieces}
 
@@ -24,10 +24,10 @@ entry_words (Tighten v side bound row) = codes "tighten" ∷ decimal v ∷ side_
 entry_words (Split v bound) = codes "split" ∷ decimal v ∷ decimal bound ∷ []
 entry_words (Halve v bound wide) =
     codes "halve" ∷ decimal v ∷ decimal bound ∷ step_word wide.step ∷ ratio_word wide.left ∷ ratio_word wide.right ∷ members_words wide.basis
-entry_words (Refute parts) = codes "refute" ∷ part_words parts
+entry_words (Refute parts) = codes "refute" ∷ multiplier_words parts
 entry_words Undone = codes "open" ∷ []
 
--- words say an entry
+-- words say an entry: its numbers fit, and the words are those of its tree line
 pub record SaysEntry (words : List (List ℕ)) (entry : Entry) : Type 0 where
   pub bounds : BoundsEntry entry
   pub fits : FitsEntry entry

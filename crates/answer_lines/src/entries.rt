@@ -6,8 +6,8 @@ ghost use Rattle.cost_base.specs.declared.StepName.{StepName};
 ghost use Rattle.design_problem.specs.declared.tree.Side.{Side};
 ghost use Rattle.design_problem.specs.declared.tree.Member.{Member};
 ghost use Rattle.design_problem.specs.declared.tree.Entry.{Entry};
-ghost use Rattle.design_problem.specs.Bounds.{IsIndex, IsCost, IsRowNumber, BoundsMember, BoundsParts, BoundsEntry};
-ghost use Rattle.design_problem.specs.Text.{side_word, step_word, member_words, members_words, part_words, entry_line, FitsEntry};
+ghost use Rattle.design_problem.specs.AnswerRanges.{IsIndex, IsCost, IsRowNumber, BoundsMember, BoundsParts, BoundsEntry};
+ghost use Rattle.design_problem.specs.Text.{side_word, step_word, member_words, members_words, multiplier_words, entry_line, FitsEntry};
 ghost use Rattle.text_lines.specs.Numbers.{split};
 ghost use Rattle.cost_base.specs.declared.Ratio.{Ratio};
 ghost use Rattle.answer_lines.specs.declared.entries.HalveFront.{HalveFront};
@@ -18,7 +18,7 @@ ghost use Rattle.answer_lines.specs.Words.{words_left, SaysEntry, SaysNoEntry};
 use crate::ratios::ratio_of;
 use crate::words::Pieces;
 use cost_base::{Listed, OutOfMemory};
-use design_problem::{Entry, Member, Parts, Ratio, Side, StepName, WideAt};
+use design_problem::{Entry, Member, Multipliers, Ratio, Side, StepName, WideAt};
 use std::alloc::Global;
 
 /// The greatest number of a variable.
@@ -142,16 +142,16 @@ fn refute_of(alloc: Global, words: Pieces<'_>) -> Result<Option<Entry>, OutOfMem
         return Ok(None);
     };
     Ok(Some(Entry::Refute {
-        parts: Parts::from_items(parts),
+        parts: Multipliers::from_items(parts),
     }))
 }
 
 /// The rows with their multipliers that words say.
 fn parts_of(alloc: Global, words: Pieces<'_>) -> Result<Option<Vec<(u64, u128)>>, OutOfMemory>
     ensures { IfOk result (λ found. MatchOption found ((ps : List (ℕ × ℕ)) → BoundsParts ps →
-        All (λ part. part.1 < 10 ^ 31) ps → words_left words.entry ≢ part_words ps)
+        All (λ part. part.1 < 10 ^ 31) ps → words_left words.entry ≢ multiplier_words ps)
         (λ ps. BoundsParts ps.items × All (λ part. part.1 < 10 ^ 31) ps.items ×
-        (words_left words.entry ≡ part_words ps.items))) }
+        (words_left words.entry ≡ multiplier_words ps.items))) }
 {
     let mut parts = Vec::new(alloc);
     let mut left = words;

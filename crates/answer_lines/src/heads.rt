@@ -1,7 +1,8 @@
 //! Reading the lines of an answer that have at most one number.
 ghost use Rattle.std.specs.Prelude.{◌≡◌, ◌≢◌, ℕ, ◌+◌, ◌<◌, List, [], ◌∷◌, MatchOption, MatchResult, codes};
-ghost use Rattle.design_problem.specs.Bounds.{IsIndex, IsCost, IsRowNumber, BoundsVerdict, BoundsFloor};
-ghost use Rattle.evidence_text.specs.Parts.{verdict_line, floor_line, rows_line, tree_line};
+ghost use Rattle.design_problem.specs.AnswerRanges.{IsIndex, IsCost, IsRowNumber, BoundsVerdict, BoundsFloor};
+ghost use Rattle.design_problem.specs.Text.{verdict_line, floor_line, rows_line};
+ghost use Rattle.evidence_text.specs.Parts.{tree_line};
 ghost use Rattle.answer_lines.specs.Grammar.{AtHead, AtVerdict, AtCosts, AtFloor, AtSections, AtRows, AtRow, AtTree, AtEnd, AfterEnd};
 ghost use Rattle.answer_lines.specs.Places.{LacksLawful};
 ghost use Rattle.answer_lines.specs.Going.{Goes};

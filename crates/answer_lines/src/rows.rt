@@ -2,7 +2,7 @@
 ghost use Rattle.std.specs.Prelude.{◌≡◌, ◌≢◌, ℕ, ◌+◌, ◌<◌, ◌≤◌, List, [], ◌∷◌, All, MatchOption, IfOk, map, length};
 ghost use Rattle.cost_base.specs.Decimal.{decimal};
 ghost use Rattle.design_problem.specs.declared.form.Row.{Row};
-ghost use Rattle.design_problem.specs.Bounds.{IsIndex, BoundsRow};
+ghost use Rattle.design_problem.specs.AnswerRanges.{IsIndex, BoundsRow};
 ghost use Rattle.design_problem.specs.Text.{row_line};
 ghost use Rattle.answer_lines.specs.Words.{words_left};
 

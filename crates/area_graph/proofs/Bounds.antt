@@ -4,6 +4,7 @@ use Rattle.std.proofs.Common.{get_or-set_other, length-set}
 use Rattle.std.proofs.Math.Nat.{mul-le-mul_right}
 use Rattle.std.proofs.lemmas.List.Sums.{sum_by-cons, sum_by-set}
 use Rattle.cost_base.specs.Lists.{Has, NoneTwice}
+use Rattle.cost_base.proofs.ListLemmas.{has_lacks}
 use Rattle.area_graph.specs.declared.Point.{Point}
 use Rattle.area_graph.specs.declared.Vertex.{Vertex}
 use Rattle.area_graph.specs.declared.Vertex.TheVariants.{Router, Subnet}
@@ -12,7 +13,6 @@ use Rattle.area_graph.specs.declared.Price.TheVariants.{Fixed, Var, Zero}
 use Rattle.area_graph.specs.Area.{Area, edge_at, no_edge, vertex_at, is_vertex_of_router, FitsGraph, FitsEdge, FitsSource, IsMetric, HasMetrics}
 use Rattle.area_graph.specs.Paths.{Joins, visited}
 use Rattle.area_graph.specs.Costs.{price_at, cost, IsPriced, FitsPoint}
-use Rattle.area_graph.proofs.Deviations.{lacks_not}
 
 -- a list with one element that passes no more counts one less
 pub count_less : (vs : List Vertex) (i : ℕ) (v : Vertex) → i < length vs → is_vertex_of_router (get_or vs i (Router 0)) ≡ true →
@@ -60,7 +60,8 @@ step-le g p vs s e es graph metrics fits same mark known from after_subnet after
     by_source (Router n) is =
         let first = price-le g p (edge_at g e).price fits (metrics e no_edge known) (fits.priced e no_edge known) in
         let less = count_less vs s (Subnet 0) within (ap is_vertex_of_router (mark ∙ is)) refl in
-        let both = one_more (price_at p (edge_at g e).price) (cost g p es) (count_by is_vertex_of_router (set vs s (Subnet 0))) (65535 * p.scale) first after_router in
+        let both = one_more (price_at p (edge_at g e).price) (cost g p es) (count_by is_vertex_of_router (set vs s (Subnet 0))) (65535 * p.scale) first
+        after_router in
         subst (λ (n : ℕ). cost g p (e ∷ es) ≤ n * (65535 * p.scale)) less
         (subst (λ (c : ℕ). c ≤ (count_by is_vertex_of_router (set vs s (Subnet 0)) + 1) * (65535 * p.scale))
         (sym longer) both)
@@ -80,8 +81,8 @@ cost-le_routers g p vs s (e ∷ es) t graph metrics fits same joins once marks =
     (cost-le_routers g p vs (edge_at g e).to es t graph metrics fits same joins.2 once.1 (λ v has. marks v (inr has)))
     (cost-le_routers g p (set vs s (Subnet 0)) (edge_at g e).to es t graph metrics fits (length-set vs s (Subnet 0) ∙ same) joins.2 once.1
     (λ v has. get_or-set_other vs s v (Subnet 0) (Router 0)
-    (λ back. lacks_not (visited g (edge_at g e).to es) s once.0
-    (subst (λ (x : ℕ). Has (visited g (edge_at g e).to es) x) back has)) ∙ marks v (inr has)))
+    (λ back. has_lacks (visited g (edge_at g e).to es) s
+    (subst (λ (x : ℕ). Has (visited g (edge_at g e).to es) x) back has) once.0) ∙ marks v (inr has)))
 
 thousand : (count scale total : ℕ) → count ≤ 1000 → 1 ≤ scale → total ≤ count * (65535 * scale) → total < 2 ^ 26 * scale
 thousand count scale total few above within = let most = mul-le-mul_right (65535 * scale) few in omega (arith, most)

@@ -24,7 +24,8 @@ deviation_dearer g p excluded t d settled target u (e ∷ path) (i ∷ rest) joi
       | inl leaves ↦
           let dearer = out_all (LeadsToMore g p excluded d e (cost g p (e ∷ path))) g (edge_at g e).from leads.0 i
           leaves.1.known (leaves.1.from_u ∙ sym joins.1) leaves.1.there leaves.0 in
-          let least = potential-le g p excluded (λ v. get_or d v 0) (λ k known lacks. settled k known lacks) (edge_at g i).to rest t leaves.1.joins leaves.1.kept in
+          let least = potential-le g p excluded (λ v. get_or d v 0) (λ k known lacks. settled k known lacks) (edge_at g i).to rest t leaves.1.joins
+          leaves.1.kept in
           omega (arith, dearer, least, longer, target)
       | inr along ↦
           let later = deviation_dearer g p excluded t d settled target (edge_at g e).to path rest joins.2 leads.1 along.1 in

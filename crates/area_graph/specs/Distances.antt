@@ -67,4 +67,5 @@ LeadsToMore g p excluded d number most e = Lacks excluded e → e ≢ number →
 -- at each vertex of the path every other edge that isn't excluded leads to more than what the path costs from there
 abbrev pub OtherEdgesLeadToMore : Area → Point → List ℕ → List ℕ → List ℕ → Type 0
 OtherEdgesLeadToMore g p excluded d [] = Unit {0}
-OtherEdgesLeadToMore g p excluded d (e ∷ es) = All (LeadsToMore g p excluded d e (cost g p (e ∷ es))) (edges_out g (edge_at g e).from) × OtherEdgesLeadToMore g p excluded d es
+OtherEdgesLeadToMore g p excluded d (e ∷ es) = All (LeadsToMore g p excluded d e (cost g p (e ∷ es))) (edges_out g (edge_at g e).from) ×
+    OtherEdgesLeadToMore g p excluded d es

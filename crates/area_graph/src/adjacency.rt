@@ -129,8 +129,8 @@ impl Graph {
         Graph::new(alloc, vertices, edges)
     }
 
-    /// A law of each graph, which takes no time: it meets the conditions of `fits_graph`, and each fixed price is
-    /// within the 16 bits of an interface cost (RFC 2328, A.4.3).
+    /// For the prover alone, a law of each graph, which takes no time: it meets the conditions of `fits_graph`, and
+    /// each fixed price is within the 16 bits of an interface cost (RFC 2328, A.4.3).
     pub fn keeps_conditions(&self)
         ensures fits { FitsGraph self.now }
         ensures metrics { HasMetrics self.now }

@@ -1,10 +1,11 @@
 //! The excluded edges of a request.
 
-ghost use Rattle.std.specs.Prelude.{◌≡◌, ◌↔◌, ◌++◌, ◌∷◌, [], ℕ, IsTrue, List, length};
+ghost use Rattle.std.specs.Prelude.{◌≡◌, ◌↔◌, IsTrue, length};
 ghost use Rattle.cost_base.specs.Lists.{Lacks};
 ghost use Rattle.area_graph.specs.Distances.{AreEdgeMarks};
 
 use crate::paths::lacks;
+use cost_base::mark_within;
 use std::marker::Model;
 
 /// The excluded edges of a request, with a mark for each edge of the graph that tells at once whether it is one of
@@ -49,17 +50,6 @@ pub fn mark_excluded(marks: &mut Vec<bool>, excluded: &[u32])
 {
     marks.fill(false);
     for edge in excluded {
-        mark(marks, *edge);
-    }
-}
-
-/// Sets the mark of one edge more, if it is an edge of the graph.
-fn mark(marks: &mut Vec<bool>, edge: u32)
-    ensures marks { (excluded : List ℕ) → AreEdgeMarks excluded marks.old.items →
-        AreEdgeMarks (excluded ++ edge ∷ []) marks.new.items }
-    ensures count { length marks.new.items ≡ length marks.old.items }
-{
-    if (edge as usize) < marks.len() {
-        marks[edge as usize] = true;
+        mark_within(marks, *edge as usize);
     }
 }

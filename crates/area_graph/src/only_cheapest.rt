@@ -13,7 +13,7 @@ use crate::passes::put_distances;
 use crate::paths::edge_of;
 use crate::subgraph::Subgraph;
 use crate::{Graph, Path, Point};
-use cost_base::OutOfMemory;
+use cost_base::{OutOfMemory, no_marks};
 use std::alloc::Global;
 
 /// What no path costs at scale 1: one over at most 1,000 routers, each left at a cost of at most 65535, costs less.
@@ -21,7 +21,7 @@ pub const FAR: u128 = 1 << 26;
 
 /// A path with what a request says of it.
 #[derive(Clone, Copy)]
-pub struct WantedPath<'a> {
+pub struct BorrowedRequest<'a> {
     /// The path.
     pub path: &'a Path,
     /// The vertex where it is to end.
@@ -124,7 +124,7 @@ pub fn is_only_cheapest(
     alloc: Global,
     graph: &Graph,
     point: &Point,
-    wanted: &WantedPath<'_>,
+    wanted: &BorrowedRequest<'_>,
 ) -> Result<bool, OutOfMemory>
     requires fits { FitsPoint graph.now point.now }
     requires path { IsPathOf graph.now (ends_wanted wanted.now) wanted.now.path.now.edges }
@@ -132,7 +132,7 @@ pub fn is_only_cheapest(
         (ends_wanted wanted.now) wanted.now.path.now.edges) }
 {
     graph.keeps_conditions();
-    let mut marks = vec![in alloc; false; graph.edges().len()]?;
+    let mut marks = no_marks(alloc, graph.edges().len())?;
     mark_excluded(&mut marks, wanted.excluded);
     let exclusion = Exclusion {
         excluded: wanted.excluded,

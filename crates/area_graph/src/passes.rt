@@ -76,7 +76,8 @@ fn pass(subgraph: &Subgraph<'_>, distances: &mut Vec<u128>) -> bool
 
     // Where none was lowered no edge leads to a smaller one.
     ensures settled { (result ≡ false) → SettledBelow (length subgraph.now.graph.now.edges)
-        subgraph.now.graph.now subgraph.now.point.now subgraph.now.exclusion.now distances.new.items }
+        subgraph.now.graph.now subgraph.now.point.now subgraph.now.exclusion.now
+        distances.new.items }
 {
     subgraph.graph.keeps_conditions();
     let mut lowered = false;

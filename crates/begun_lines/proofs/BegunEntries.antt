@@ -6,8 +6,8 @@ use Rattle.cost_base.specs.Decimal.{decimal}
 use Rattle.text_lines.proofs.Printed.{decimal-same}
 use Rattle.design_problem.specs.declared.tree.Member.{Member}
 use Rattle.design_problem.specs.declared.tree.Member.TheVariants.{Low, High, Row}
-use Rattle.design_problem.specs.Bounds.{BoundsMember}
-use Rattle.design_problem.specs.Text.{spaced, member_words, members_words, part_words}
+use Rattle.design_problem.specs.AnswerRanges.{BoundsMember}
+use Rattle.design_problem.specs.Text.{spaced, member_words, members_words, multiplier_words}
 use Rattle.text_lines.specs.Numbers.{split}
 use Rattle.text_lines.proofs.Pieces.{split-some}
 use Rattle.begun_lines.specs.BegunLines.{GoesOn, Then, Alone, IsCoprimeInRange, IsNumberInRange, rows_from, multiplier_range, IsRising, PartsWords, MemberWords, MembersWords}
@@ -34,7 +34,8 @@ words_before (w ∷ ws) text rest more e =
       | inr behind ↦ word_behind text w behind.0 more behind.1 first.spaceless ∙ ap (λ l. w ∷ l) (words_before ws behind.0 rest more (sym behind.2))
     ]
 
--- a text's first words, where more follow: they stand in it with a space behind them, or they are all of it with some bytes more
+-- a text's first words, where more follow: they stand in it with a space behind them, or they are all of it with some
+-- bytes more
 abbrev pub StandsOrGrows : List (List ℕ) → List ℕ → List ℕ → Type 0
 StandsOrGrows ws text more = ((rest : List ℕ) × (split 32 text ≡ ws ++ split 32 rest))
     ⊎ ((less : List ℕ) × (split 32 (text ++ less) ≡ ws) × (length less ≤ length more))
@@ -189,15 +190,15 @@ part_skip text rest room least row m above among positive e = (λ on. forth on.0
     words more = words_before (decimal row ∷ decimal m ∷ []) text rest more e
 
     forth : (more : List ℕ) (ps : List (ℕ × ℕ)) → ps ≢ [] → IsRising least ps →
-        split 32 (text ++ more) ≡ part_words ps → length more ≤ room → GoesOn (PartsWords (row + 1)) rest room
+        split 32 (text ++ more) ≡ multiplier_words ps → length more ≤ room → GoesOn (PartsWords (row + 1)) rest room
     forth more [] some rising is within = absurd (some refl)
     forth more (p ∷ ps) some rising is within =
-        let both : decimal row ∷ decimal m ∷ split 32 (rest ++ more) ≡ decimal p.0 ∷ decimal p.1 ∷ part_words ps = sym (words more) ∙ is in
+        let both : decimal row ∷ decimal m ∷ split 32 (rest ++ more) ≡ decimal p.0 ∷ decimal p.1 ∷ multiplier_words ps = sym (words more) ∙ is in
         let same : row ≡ p.0 = decimal-same row p.0 (head-is _ _ _ _ both) in
-        let left : split 32 (rest ++ more) ≡ part_words ps = tail-is _ _ _ _ (tail-is _ _ _ _ both) in
-        (more, (ps, λ none. split-some 32 (rest ++ more) (left ∙ ap part_words none), subst (λ n. IsRising (n + 1) ps) (sym same) rising.2, left), within)
+        let left : split 32 (rest ++ more) ≡ multiplier_words ps = tail-is _ _ _ _ (tail-is _ _ _ _ both) in
+        (more, (ps, λ none. split-some 32 (rest ++ more) (left ∙ ap multiplier_words none), subst (λ n. IsRising (n + 1) ps) (sym same) rising.2, left), within)
 
-    back : (more : List ℕ) (ps : List (ℕ × ℕ)) → IsRising (row + 1) ps → split 32 (rest ++ more) ≡ part_words ps →
+    back : (more : List ℕ) (ps : List (ℕ × ℕ)) → IsRising (row + 1) ps → split 32 (rest ++ more) ≡ multiplier_words ps →
         length more ≤ room → GoesOn (PartsWords least) text room
     back more ps rising is within =
         let here : IsCoprimeInRange (rows_from least) row = record { least = above; greatest = among.greatest; coprime = among.coprime } in
@@ -208,10 +209,10 @@ pub part_falls : (text rest : List ℕ) (room least row m : ℕ) → row < least
     split 32 text ≡ decimal row ∷ decimal m ∷ split 32 rest → IsTrue false ↔ GoesOn (PartsWords least) text room
 part_falls text rest room least row m below e = (λ no. absurd (cc), λ on. absurd (falls on.0 on.1.0 on.1.1 on.1.2 on.1.3))
   where
-    falls : (more : List ℕ) (ps : List (ℕ × ℕ)) → ps ≢ [] → IsRising least ps → split 32 (text ++ more) ≡ part_words ps → ⊥
+    falls : (more : List ℕ) (ps : List (ℕ × ℕ)) → ps ≢ [] → IsRising least ps → split 32 (text ++ more) ≡ multiplier_words ps → ⊥
     falls more [] some rising is = some refl
     falls more (p ∷ ps) some rising is =
-        let both : decimal row ∷ decimal m ∷ split 32 (rest ++ more) ≡ decimal p.0 ∷ decimal p.1 ∷ part_words ps =
+        let both : decimal row ∷ decimal m ∷ split 32 (rest ++ more) ≡ decimal p.0 ∷ decimal p.1 ∷ multiplier_words ps =
         sym (words_before (decimal row ∷ decimal m ∷ []) text rest more e) ∙ is in
         omega (arith, decimal-same row p.0 (head-is _ _ _ _ both), rising.0.least)
 
@@ -219,7 +220,8 @@ part_falls text rest room least row m below e = (λ no. absurd (cc), λ on. absu
 pub part_last : (text : List ℕ) (room least : ℕ) →
     ((row m : ℕ) (rest : List ℕ) → IsCoprimeInRange (rows_from 0) row → IsCoprimeInRange multiplier_range m →
     split 32 text ≢ decimal row ∷ decimal m ∷ split 32 rest) →
-    (r : Bool) → IsTrue r ↔ GoesOn (Then (IsNumberInRange (rows_from least)) (Alone (IsNumberInRange multiplier_range))) text room → IsTrue r ↔ GoesOn (PartsWords least) text room
+    (r : Bool) → IsTrue r ↔ GoesOn (Then (IsNumberInRange (rows_from least)) (Alone (IsNumberInRange multiplier_range))) text room →
+    IsTrue r ↔ GoesOn (PartsWords least) text room
 part_last text room least none r h = (λ is. forth (h.0 is), λ on. h.1 (back on.0 on.1.0 on.1.1 on.1.2 on.1.3 on.2))
   where
     one : List (List ℕ) → Type 0
@@ -234,7 +236,8 @@ part_last text room least none r h = (λ is. forth (h.0 is), λ on. h.1 (back on
     forth : GoesOn one text room → GoesOn (PartsWords least) text room
     forth on = (on.0, said (split 32 (text ++ on.0)) on.1, on.2)
 
-    from : (row m : ℕ) (ws : List (List ℕ)) → IsCoprimeInRange (rows_from least) row → IsCoprimeInRange multiplier_range m → ws ≡ decimal row ∷ decimal m ∷ [] → one ws
+    from : (row m : ℕ) (ws : List (List ℕ)) → IsCoprimeInRange (rows_from least) row → IsCoprimeInRange multiplier_range m → ws ≡ decimal row ∷ decimal m ∷ [] →
+        one ws
     from row m ws among positive e = subst one (sym e) ((row, among, refl), (m, positive, refl))
 
     ends : (row m : ℕ) (more : List ℕ) → IsCoprimeInRange (rows_from least) row → IsCoprimeInRange multiplier_range m → length more ≤ room →
@@ -244,12 +247,12 @@ part_last text room least none r h = (λ is. forth (h.0 is), λ on. h.1 (back on
         positive stands.1)
     ends row m more among positive within (inr grows) = (grows.0, from row m (split 32 (text ++ grows.0)) among positive grows.1, omega (arith, grows.2))
 
-    back : (more : List ℕ) (ps : List (ℕ × ℕ)) → ps ≢ [] → IsRising least ps → split 32 (text ++ more) ≡ part_words ps →
+    back : (more : List ℕ) (ps : List (ℕ × ℕ)) → ps ≢ [] → IsRising least ps → split 32 (text ++ more) ≡ multiplier_words ps →
         length more ≤ room → GoesOn one text room
     back more [] some rising is within = absurd (some refl)
     back more (p ∷ []) some rising is within = (more, from p.0 p.1 (split 32 (text ++ more)) rising.0 rising.1 is, within)
     back more (p ∷ (q ∷ qs)) some rising is within =
-        ends p.0 p.1 more rising.0 rising.1 within (first_words (decimal p.0) (decimal p.1 ∷ []) (part_words (q ∷ qs)) text more (λ e. cc) is)
+        ends p.0 p.1 more rising.0 rising.1 within (first_words (decimal p.0) (decimal p.1 ∷ []) (multiplier_words (q ∷ qs)) text more (λ e. cc) is)
 
 -- the text behind a member, where there is one
 pub member_behind : (text : List ℕ) (m : Member) (words : List (List ℕ)) (found : Option (Bor (List ℕ))) →

@@ -12,15 +12,15 @@ use Rattle.design_problem.specs.declared.tree.Member.{Member}
 use Rattle.design_problem.specs.declared.tree.Member.TheVariants.{Low, High, Row}
 use Rattle.design_problem.specs.declared.tree.Entry.{Entry}
 use Rattle.design_problem.specs.declared.tree.Entry.TheVariants.{Tighten, Split, Halve, Refute, Undone}
-use Rattle.design_problem.specs.Bounds.{IsIndex, IsCost, IsRowNumber, BoundsMember, BoundsParts, BoundsEntry}
-use Rattle.design_problem.specs.Text.{side_word, step_word, ratio_word, member_words, members_words, part_words, entry_line, spaced, FitsEntry}
+use Rattle.design_problem.specs.AnswerRanges.{IsIndex, IsCost, IsRowNumber, BoundsMember, BoundsParts, BoundsEntry}
+use Rattle.design_problem.specs.Text.{side_word, step_word, ratio_word, member_words, members_words, multiplier_words, entry_line, spaced, FitsEntry}
 use Rattle.text_lines.specs.Numbers.{split}
 use Rattle.whole_numbers.proofs.Divisors.{one-gcd}
 use Rattle.evidence_text.specs.declared.TreePart.{TreePart}
 use Rattle.answer_lines.specs.Grammar.{AtTree}
 use Rattle.answer_lines.specs.Places.{BeginsLawful}
 use Rattle.answer_lines.specs.Words.{entry_words}
-use Rattle.begun_lines.specs.BegunLines.{GoesOn, Then, Alone, IsCoprimeInRange, IsNumberInRange, IsSide, IsStepWord, IsEitherStep, IsLaterStep, IsRatio, range, vars, values, rows_from, IsRising, OpenWords, SplitWords, BoundWords, TightenWords, LeafWords, ParentWords, PartsWords, RefuteWords, RowWords, EndWords, MemberWords, MembersWords, BasisWords, HalveWords, EntryWords}
+use Rattle.begun_lines.specs.BegunLines.{GoesOn, Then, Alone, IsCoprimeInRange, IsNumberInRange, IsSide, IsStepWord, IsEitherStep, IsLaterStep, IsRatio, range, vars, values, rows_from, IsRising, UndoneWords, SplitWords, BoundWords, TightenWords, LeafWords, ParentWords, PartsWords, RefuteWords, RowWords, EndWords, MemberWords, MembersWords, BasisWords, HalveWords, EntryWords}
 use Rattle.design_problem.specs.Trees.{subtree_count}
 use Rattle.begun_lines.proofs.BegunWords.{alone_is}
 use Rattle.answer_lines.proofs.EntryWords.{entry_line-words}
@@ -233,9 +233,9 @@ entry_kinds ws is = cases is.0 is.1.bounds is.1.fits is.1.is
         let members : MembersWords (members_words wide.basis) = (wide.basis, fits.2, bounds.2, refl) in
         inr (inr (inr (subst HalveWords (sym e) (refl, (var, (value, (step, (left, (right, members)))))))))
     cases (Refute ps) bounds fits e =
-        let parts : PartsWords 0 (part_words ps) = (ps, fits.0, rising-from 0 ps (λ i d within. omega arith) bounds fits.1, refl) in
+        let parts : PartsWords 0 (multiplier_words ps) = (ps, fits.0, rising-from 0 ps (λ i d within. omega arith) bounds fits.1, refl) in
         inl (inl (subst RefuteWords (sym e) (refl, parts)))
-    cases Undone bounds fits e = inl (inr (subst OpenWords (sym e) refl))
+    cases Undone bounds fits e = inl (inr (subst UndoneWords (sym e) refl))
 
 tighten_entry : (ws : List (List ℕ)) → TightenWords ws → EntryWords ws
 tighten_entry ws is =
@@ -301,7 +301,7 @@ refute_entry ws is =
       record {
         bounds = rising.bounds;
         fits = (parts.1, rising.small);
-        is = joined ws name.rest (part_words parts.0) name.w (codes "refute") name.is name.first parts.3;
+        is = joined ws name.rest (multiplier_words parts.0) name.w (codes "refute") name.is name.first parts.3;
       },
     )
 
@@ -346,5 +346,6 @@ begins_by_words part places left rest room size r h = (λ is. forth (h.0 is), λ
         )
 
 -- a line that is too long begins none
-pub too_long : (part : TreePart) (places left : ℕ) (rest : List ℕ) → 65536 < length rest → IsTrue false ↔ BeginsLawful (AtTree part (suc places) (suc left)) rest
+pub too_long : (part : TreePart) (places left : ℕ) (rest : List ℕ) → 65536 < length rest →
+    IsTrue false ↔ BeginsLawful (AtTree part (suc places) (suc left)) rest
 too_long part places left rest long = (λ no. absurd (cc), λ on. absurd (omega (arith, long, on.1.1.short, length-append rest on.0)))

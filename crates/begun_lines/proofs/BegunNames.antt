@@ -5,7 +5,7 @@ use Rattle.std.proofs.lemmas.List.Elements.{All-nil, All-cons, All-push}
 use Rattle.std.proofs.lemmas.Bool.Decides.{Decides-eqb}
 use Rattle.std.specs.Cmp.Lexicographic.{pointwise, pointwise_decides}
 use Rattle.cost_base.specs.Words.{IsOneWord, ends_a_word}
-use Rattle.answer_lines.specs.Grammar.{router_line}
+use Rattle.design_problem.specs.Text.{router_line}
 use Rattle.begun_lines.specs.Begun.{IsLineFront, BeginsName, BeginsRouter, IsRouterOf}
 use Rattle.begun_lines.proofs.Beginnings.{GoesInto, two_parts, front-longer, front-whole}
 use Rattle.answer_lines.proofs.ListParts.{not-both, head-is}

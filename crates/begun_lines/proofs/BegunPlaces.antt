@@ -5,9 +5,9 @@ use Rattle.design_problem.specs.declared.answer.Verdict.{Verdict}
 use Rattle.design_problem.specs.declared.answer.Verdict.TheVariants.{Optimal, Impossible, Undecided}
 use Rattle.design_problem.specs.declared.answer.Floor.{Floor}
 use Rattle.design_problem.specs.declared.answer.Floor.TheVariants.{Absent, Empty, Var}
-use Rattle.design_problem.specs.Bounds.{BoundsVerdict, BoundsFloor}
+use Rattle.design_problem.specs.AnswerRanges.{BoundsVerdict, BoundsFloor}
 use Rattle.text_lines.proofs.Digits.{length-decimal-le}
-use Rattle.evidence_text.specs.Parts.{verdict_line, floor_line}
+use Rattle.design_problem.specs.Text.{verdict_line, floor_line}
 use Rattle.answer_lines.specs.declared.other_text.OtherText.{OtherText}
 use Rattle.answer_lines.specs.Grammar.{TextPlace, AtVerdict, AtCosts, AtSections, AtInterface, AtCost, AtFloor, AtRows, AtRow, AtSectionsEnd, Next, IsInterfaceAgain}
 use Rattle.answer_lines.proofs.FirstLines.{has-room}
@@ -16,8 +16,16 @@ use Rattle.begun_lines.specs.Begun.{IsLineFront, BeginsNumber, BeginsName, Begin
 
 -- what begins a lawful line
 pub begins-from : (place next : TextPlace) (rest line : List ℕ) → Next place line next → length line ≤ 65536 → IsLineFront rest line → BeginsLawful place rest
-begins-from place next rest line is short front =
-    (front.0, (next, record { is = subst (λ l. Next place l next) (sym front.1) is; short = has-room place (rest ++ front.0) (subst (λ l. length l ≤ 65536) (sym front.1) short) }))
+begins-from place next rest line is short front = (
+  front.0,
+  (
+    next,
+    record {
+      is = subst (λ l. Next place l next) (sym front.1) is;
+      short = has-room place (rest ++ front.0) (subst (λ l. length l ≤ 65536) (sym front.1) short);
+    },
+  ),
+)
 
 -- where one line alone is in the grammar
 pub wanted-begun : (place next : TextPlace) (rest line : List ℕ) → length line ≤ 65536 → Next place line next →

@@ -4,7 +4,7 @@ use Rattle.std.proofs.lemmas.List.{map-append}
 use Rattle.std.proofs.lemmas.List.Elements.{All-nil, All-cons, All-head, All-tail, All-push}
 use Rattle.cost_base.specs.Decimal.{decimal}
 use Rattle.design_problem.specs.declared.form.Row.{Row}
-use Rattle.design_problem.specs.Bounds.{IsIndex, BoundsRow}
+use Rattle.design_problem.specs.AnswerRanges.{IsIndex, BoundsRow}
 use Rattle.design_problem.specs.Text.{spaced, row_line}
 use Rattle.text_lines.specs.Numbers.{split}
 use Rattle.text_lines.proofs.WordLaws.{decimal-word}

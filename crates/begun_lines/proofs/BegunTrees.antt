@@ -7,7 +7,7 @@ use Rattle.text_lines.proofs.Pieces.{split-some}
 use Rattle.text_lines.proofs.Digits.{length-decimal-le}
 use Rattle.evidence_text.specs.Parts.{no_tree_line, tree_line}
 use Rattle.evidence_text.specs.declared.TreePart.{TreePart}
-use Rattle.evidence_text.specs.declared.TreePart.TheVariants.{Proof, Unfinished}
+use Rattle.evidence_text.specs.declared.TreePart.TheVariants.{Proof, Undecided}
 use Rattle.answer_lines.specs.Grammar.{TextPlace, AtRow, AtTree, IsPartNext, Next}
 use Rattle.answer_lines.specs.Places.{BeginsLawful}
 use Rattle.begun_lines.specs.Begun.{IsLineFront, IsNumberWord, BeginsNumber, BeginsTree, BeginsCount}
@@ -22,7 +22,8 @@ pub tree-begun : (rest front : List ℕ) → (BeginsNumber rest front 65535 ⊎ 
 tree-begun rest front = (
   λ begun. elim begun [
     | inl number ↦
-        let longer : IsLineFront rest ((front ++ decimal number.0) ++ 32 ∷ decimal 0) = front-longer rest (front ++ decimal number.0) (32 ∷ decimal 0) number.2 in
+        let longer : IsLineFront rest ((front ++ decimal number.0) ++ 32 ∷ decimal 0) = front-longer rest (front ++ decimal number.0) (32 ∷ decimal 0) number.2
+        in
         (number.0, 0, number.1, omega arith, (longer.0, longer.1 ∙ append_assoc front (decimal number.0) (32 ∷ decimal 0)))
     | inr count ↦ behind count.0 count.1 count.2 count.3 count.4
   ],
@@ -150,5 +151,5 @@ proof-begun rest =
 
 pub open-begun : (rest : List ℕ) → (IsLineFront rest (codes "open none") ⊎ BeginsTree rest (codes "open ")) ↔ BeginsLawful (AtTree Proof zero zero) rest
 open-begun rest =
-    part-begun (AtTree Proof zero zero) Unfinished (codes "open none") (codes "open ") rest (λ line next. (λ is. is, λ is. is)) refl
+    part-begun (AtTree Proof zero zero) Undecided (codes "open none") (codes "open ") rest (λ line next. (λ is. is, λ is. is)) refl
     (omega arith) (λ cap count. refl) (omega arith)

@@ -109,7 +109,8 @@ StandsBehind b missing after =
     ⊎ ((split 32 b.text.now ≡ b.text.now ∷ []) × (after.text.now ≡ []) × (after.room + missing + 1 ≡ b.room))
 
 step_here : (word : List ℕ → Type 0) (b after : Begun) (v : List ℕ) (vs : List (List ℕ)) (n : ℕ) → IsLeastCompletion word v n → split 32 b.text.now ≡ v ∷ vs →
-    (u : List ℕ) → b.text.now ≡ u ++ 32 ∷ after.text.now → split 32 b.text.now ≡ u ∷ split 32 after.text.now → n ≡ 0 → after.room ≡ b.room → IsWordStep word b after
+    (u : List ℕ) → b.text.now ≡ u ++ 32 ∷ after.text.now → split 32 b.text.now ≡ u ∷ split 32 after.text.now → n ≡ 0 → after.room ≡ b.room →
+    IsWordStep word b after
 step_here word b after v vs n least first u parts cut none same =
     let spaceless : HasNoSpace u = split-whole 32 b.text.now u (split 32 after.text.now) cut in
     let is_u : v ≡ u = head-is v u vs (split 32 after.text.now) (sym first ∙ cut) in

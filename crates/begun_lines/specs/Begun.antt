@@ -3,10 +3,10 @@ use Rattle.std.specs.Prelude.{◌≡◌, ◌≢◌, ℕ, ◌<◌, ◌≤◌, Lis
 use Rattle.cost_base.specs.Decimal.{decimal}
 use Rattle.cost_base.specs.Words.{IsOneWord}
 use Rattle.design_problem.specs.declared.form.Row.{Row}
-use Rattle.design_problem.specs.Bounds.{IsIndex, BoundsRow}
-use Rattle.design_problem.specs.Text.{row_line}
+use Rattle.design_problem.specs.AnswerRanges.{IsIndex, BoundsRow}
+use Rattle.design_problem.specs.Text.{row_line, router_line}
 use Rattle.answer_lines.specs.declared.other_text.OtherText.{OtherText}
-use Rattle.answer_lines.specs.Grammar.{TextPlace, AtInterface, IsEndNext, router_line}
+use Rattle.answer_lines.specs.Grammar.{TextPlace, AtInterface, IsEndNext}
 use Rattle.answer_lines.specs.Places.{BeginsLawful}
 
 -- a line begins with these bytes

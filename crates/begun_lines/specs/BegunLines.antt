@@ -9,8 +9,8 @@ use Rattle.cost_base.specs.declared.StepName.TheVariants.{Mul, Div, Lcm, Scale}
 use Rattle.design_problem.specs.declared.tree.Side.{Side}
 use Rattle.design_problem.specs.declared.tree.Member.{Member}
 use Rattle.design_problem.specs.declared.tree.Entry.{Entry}
-use Rattle.design_problem.specs.Bounds.{BoundsMember}
-use Rattle.design_problem.specs.Text.{side_word, step_word, ratio_word, member_words, members_words, part_words, IsPrintedRatio}
+use Rattle.design_problem.specs.AnswerRanges.{BoundsMember}
+use Rattle.design_problem.specs.Text.{side_word, step_word, ratio_word, member_words, members_words, multiplier_words, IsPrintedRatio}
 use Rattle.answer_lines.specs.Words.{SaysEntry}
 use Rattle.begun_lines.specs.declared.begun.Begun.{Begun}
 use Rattle.begun_lines.specs.declared.numbers.Numbers.{Numbers}
@@ -49,7 +49,8 @@ pub record IsLeastCompletion (word : List ℕ → Type 0) (begun : List ℕ) (co
 abbrev pub IsMissing : (List ℕ → Type 0) → List ℕ → Option ℕ → Type 0
 IsMissing word begun found = MatchOption found (Never word begun) (IsLeastCompletion word begun)
 
--- what follows a word: what goes on with the one goes on with the other
+-- a begun line behind one more word: the line before goes on with a word of the kind and more words exactly where the
+-- line after goes on with these
 pub record IsWordStep (word : List ℕ → Type 0) (before after : Begun) : Type 0 where
   pub forth : (more w : List ℕ) (ws : List (List ℕ)) → word w → ws ≢ [] → split 32 (before.text.now ++ more) ≡ w ∷ ws → length more ≤ before.room →
       (left : List ℕ) × (ws ≡ split 32 (after.text.now ++ left)) × (length left ≤ after.room)
@@ -83,7 +84,7 @@ range least greatest = record { least = least; greatest = greatest; coprime_to =
 abbrev pub IsRatio : List ℕ → Type 0
 IsRatio w = (q : Ratio) × IsPrintedRatio q × (w ≡ ratio_word q)
 
--- `low` or `high`
+-- the word of a side: `low` or `high`
 abbrev pub IsSide : List ℕ → Type 0
 IsSide w = (side : Side) × (w ≡ side_word side)
 
@@ -116,8 +117,8 @@ abbrev pub multiplier_range : Numbers
 multiplier_range = range 1 9999999999999999999999999999999
 
 -- the words of an Undone
-abbrev pub OpenWords : List (List ℕ) → Type 0
-OpenWords ws = Alone (λ w. w ≡ codes "open") ws
+abbrev pub UndoneWords : List (List ℕ) → Type 0
+UndoneWords ws = Alone (λ w. w ≡ codes "open") ws
 
 -- the words of a Split
 abbrev pub SplitWords : List (List ℕ) → Type 0
@@ -138,7 +139,7 @@ IsRising least (part ∷ parts) = IsCoprimeInRange (rows_from least) part.0 × I
 
 -- some rows that rise from a number on, with their multipliers
 abbrev pub PartsWords : ℕ → List (List ℕ) → Type 0
-PartsWords least ws = (parts : List (ℕ × ℕ)) × (parts ≢ []) × IsRising least parts × (ws ≡ part_words parts)
+PartsWords least ws = (parts : List (ℕ × ℕ)) × (parts ≢ []) × IsRising least parts × (ws ≡ multiplier_words parts)
 
 -- the words of a Refute
 abbrev pub RefuteWords : List (List ℕ) → Type 0
@@ -170,7 +171,7 @@ HalveWords ws = Then (λ w. w ≡ codes "halve") (Then (IsNumberInRange vars) (T
 
 -- the words of an entry without a subtree
 abbrev pub LeafWords : List (List ℕ) → Type 0
-LeafWords ws = RefuteWords ws ⊎ OpenWords ws
+LeafWords ws = RefuteWords ws ⊎ UndoneWords ws
 
 -- the words of an entry with two subtrees
 abbrev pub PartingWords : List (List ℕ) → Type 0

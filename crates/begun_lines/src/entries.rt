@@ -2,7 +2,7 @@
 ghost use Rattle.std.specs.Prelude.{◌≡◌, ◌≢◌, ℕ, suc, ◌+◌, ◌<◌, ◌≤◌, ◌∷◌, ◌++◌, List, MatchOption, IsTrue, ◌↔◌, length};
 ghost use Rattle.cost_base.specs.Decimal.{decimal};
 ghost use Rattle.design_problem.specs.declared.tree.Member.{Member};
-ghost use Rattle.design_problem.specs.Bounds.{BoundsMember};
+ghost use Rattle.design_problem.specs.AnswerRanges.{BoundsMember};
 ghost use Rattle.design_problem.specs.Text.{side_word, step_word, member_words};
 ghost use Rattle.text_lines.specs.Numbers.{split};
 ghost use Rattle.evidence_text.specs.declared.TreePart.{TreePart};

@@ -134,7 +134,7 @@ pub fn begins_proof(rest: &[u8]) -> bool
     rest.len() <= LONGEST && (begins_line(rest, b"proof none") || begins_tree(rest, b"proof "))
 }
 
-/// Whether these bytes begin the head of the unfinished tree.
+/// Whether these bytes begin the head of the undecided tree.
 pub fn begins_open(rest: &[u8]) -> bool
     ensures { IsTrue result ↔ BeginsLawful (AtTree TreePart.Proof zero zero) rest.now }
 {
@@ -163,7 +163,7 @@ fn begins_count(rest: &[u8], front: &[u8]) -> bool
 
 /// Whether these bytes begin the line of the wide part.
 pub fn begins_wide(rest: &[u8]) -> bool
-    ensures { IsTrue result ↔ BeginsLawful (AtTree TreePart.Unfinished zero zero) rest.now }
+    ensures { IsTrue result ↔ BeginsLawful (AtTree TreePart.Undecided zero zero) rest.now }
 {
     begins_line(rest, b"wide none")
 }

@@ -1,7 +1,7 @@
 -- When a form alone makes the range of a variable smaller.
 use Rattle.std.specs.Prelude.{ℕ, ◌<◌, pos, ◌<ℤ◌, ◌≤ℤ◌, length}
 use Rattle.design_problem.specs.declared.form.Form.{Form}
-use Rattle.design_problem.specs.declared.form.CostBox.{CostBox}
+use Rattle.design_problem.specs.declared.boxes.CostBox.{CostBox}
 use Rattle.design_problem.specs.declared.tree.Side.{Side}
 use Rattle.design_problem.specs.Boxes.{greatest}
 use Rattle.design_problem.specs.Trees.{IsSmaller, removed}

@@ -4,4 +4,4 @@
 mod range;
 mod tightening;
 
-pub use tightening::{Step, tighten, tighten_within};
+pub use tightening::{tighten, tighten_within};

@@ -4,15 +4,7 @@ ghost use Rattle.design_problem.specs.Boxes.{greatest};
 ghost use Rattle.bound_propagation.specs.Tightening.{IsExactTightening, NoneBefore};
 
 use crate::range::exact_bound;
-use design_problem::{CostBox, Form, Side, greatest_over};
-
-/// A new bound of a variable at a side of its range.
-#[derive(Clone, Copy, Debug, PartialEq, Eq)]
-pub struct Step {
-    pub var: u32,
-    pub side: Side,
-    pub value: u16,
-}
+use design_problem::{CostBox, Form, NewBound, greatest_over};
 
 /// The first variable whose range the form alone makes smaller, with its exact new bound: the form is negative over the
 /// part of the box that is removed, and not over the part at the new bound itself. None exactly where the form makes no
@@ -21,7 +13,7 @@ pub struct Step {
 ///
 /// There is a coefficient for each variable, each of size at most 2^26, and the form's greatest value over the box
 /// isn't negative.
-pub fn tighten(form: &Form, costs: &CostBox) -> Option<Step>
+pub fn tighten(form: &Form, costs: &CostBox) -> Option<NewBound>
     // The form has a coefficient for each variable of the box, of size at most 2^26.
     requires low { length form.now.coefficients ≡ length costs.now.low }
     requires high { length form.now.coefficients ≡ length costs.now.high }
@@ -40,7 +32,7 @@ pub fn tighten(form: &Form, costs: &CostBox) -> Option<Step>
 
 /// As `tighten`, where the form's greatest value over the box is known: `most`. It is what the form can lose, so a
 /// range gets smaller only where the form's term loses more between its ends.
-pub fn tighten_within(form: &Form, costs: &CostBox, most: i128) -> Option<Step>
+pub fn tighten_within(form: &Form, costs: &CostBox, most: i128) -> Option<NewBound>
     // The form has a coefficient for each variable of the box.
     requires low { length form.now.coefficients ≡ length costs.now.low }
     requires high { length form.now.coefficients ≡ length costs.now.high }
@@ -61,7 +53,7 @@ pub fn tighten_within(form: &Form, costs: &CostBox, most: i128) -> Option<Step>
     for term in terms {
         let var = term.var as usize;
         if let Some(bound) = exact_bound(term.coefficient, slack, low[var], high[var]) {
-            return Some(Step {
+            return Some(NewBound {
                 var: term.var,
                 side: bound.side,
                 value: bound.value,

@@ -1,17 +1,10 @@
 -- The last text of a name.
-use Rattle.std.proofs.Common.{◌≡◌, ℕ, ◌+◌, ◌<◌, List, [], ◌∷◌, ◌++◌, if◌then◌else◌, Option, Some, None, take, length, get_or, refl, sym, ◌∙◌, ap}
+use Rattle.std.proofs.Common.{◌≡◌, ℕ, ◌+◌, ◌<◌, List, [], ◌∷◌, ◌++◌, if◌then◌else◌, Option, Some, None, take, length, get_or, sym, ◌∙◌, ap}
 use Rattle.std.proofs.lemmas.List.{take_more}
 use Rattle.std.specs.Option.{option_or}
 use Rattle.std.specs.Str.{bytes_eq}
+use Rattle.cost_base.proofs.ListLemmas.{option_or-assoc, option_or-none}
 use Rattle.case_scripts.specs.ScriptTexts.{NamedText, last_named}
-
-option_or_none : (a : Option (List ℕ)) → option_or a None ≡ a
-option_or_none None = refl
-option_or_none (Some x) = refl
-
-option_or_assoc : (a b d : Option (List ℕ)) → option_or (option_or a b) d ≡ option_or a (option_or b d)
-option_or_assoc None b d = refl
-option_or_assoc (Some x) b d = refl
 
 -- the bytes of a text, where it has the name
 abbrev pub if_named : List ℕ → NamedText → Option (List ℕ)
@@ -20,10 +13,10 @@ if_named name text = if bytes_eq text.name name then Some text.bytes else None
 -- a text comes before all those that stand before it
 pub last_named_more : (name : List ℕ) (texts : List NamedText) (text : NamedText)
     → last_named name (texts ++ (text ∷ [])) ≡ option_or (if_named name text) (last_named name texts)
-last_named_more name [] text = sym (option_or_none (if_named name text))
+last_named_more name [] text = sym (option_or-none (if_named name text))
 last_named_more name (first ∷ texts) text =
     ap (λ found. option_or found (if_named name first)) (last_named_more name texts text)
-    ∙ option_or_assoc (if_named name text) (last_named name texts) (if_named name first)
+    ∙ option_or-assoc (if_named name text) (last_named name texts) (if_named name first)
 
 -- so a text of a list comes before all those that stand before it
 pub last_named_step : (name : List ℕ) (texts : List NamedText) (place : ℕ) (text : NamedText) (old new : Option (List ℕ))

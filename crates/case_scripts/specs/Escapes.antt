@@ -13,7 +13,8 @@ hex_byte text =
 abbrev pub behind_x : List ℕ → List ℕ
 behind_x text = unwrap_or (option_map (λ byte. byte ∷ drop 2 text) (hex_byte text)) (92 ∷ 120 ∷ text)
 
--- what a `\` and the text behind it stand for: `n`, `r`, `t` and `xNN` make a byte, and before anything else it is itself
+-- what a `\` and the text behind it stand for: `n`, `r`, `t` and `xNN` make a byte, and before anything else it is
+-- itself
 abbrev pub unescaped : List ℕ → List ℕ
 unescaped [] = 92 ∷ []
 unescaped (first ∷ text) =

@@ -15,7 +15,7 @@ pub record ScriptTexts : Type 0 where
   pub made : List NamedText
   pub last : NamedText
 
--- an empty text
+-- a text of this name that has no bytes yet
 abbrev pub begun : List ℕ → NamedText
 begun name = record { name = name; bytes = [] }
 

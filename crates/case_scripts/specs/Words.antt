@@ -5,8 +5,8 @@ use Rattle.std.specs.Char.{is_whitespace, is_not_whitespace}
 use Rattle.std.specs.Str.{NoCharPasses, EmptyOrStartsWithPassing}
 use Rattle.std.specs.Str.Parse.{IsNumeral, digits_value, without_leading_plus}
 
--- the word is the first of a text, and comes off it with the white space before it; what is left begins with white space
--- where it is not empty. Where the text has no word, the word is empty, and the text is what is left
+-- the word is the first of a text, and comes off it with the white space before it; what is left begins with white
+-- space where it is not empty. Where the text has no word, the word is empty, and the text is what is left
 abbrev pub IsNextWord : List ℕ → List ℕ → List ℕ → Type 0
 IsNextWord text word rest =
     (NoCharPasses is_not_whitespace text × (word ≡ []) × (rest ≡ text))

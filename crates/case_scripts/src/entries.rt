@@ -1,24 +1,13 @@
-//! Steps, members, multipliers and entries of trees, as the programs that run scripts write them.
-ghost use Rattle.std.specs.Prelude.{◌≡◌};
-ghost use Rattle.design_problem.specs.Text.{step_word};
+//! Forms, steps, members, multipliers and entries of trees, as the programs that run scripts write them.
 
-use cost_base::{Ratio, StepName};
-use design_problem::{Entry, Member, Parts, Side, WideAt};
+use design_problem::{Entry, Form, Member, Multipliers, WideAt};
+use evidence_text::{side_word, step_word};
 use std::fmt;
 use wide_fraction::Wide;
 
-/// The word of a step.
-fn step_word(step: StepName) -> &'static str
-    ensures { result.now ≡ step_word step }
-{
-    match step {
-        StepName::Add => "add",
-        StepName::Sub => "sub",
-        StepName::Mul => "mul",
-        StepName::Div => "div",
-        StepName::Lcm => "lcm",
-        StepName::Scale => "scale",
-    }
+/// The letters of a word.
+fn letters(word: &[u8]) -> &str {
+    str::from_utf8(word).unwrap_or("?")
 }
 
 /// A step as it is written: its name and its two fractions.
@@ -27,7 +16,7 @@ pub struct Step(pub Wide);
 
 impl fmt::Display for Step {
     fn fmt<W: fmt::Write>(&self, f: &mut fmt::Formatter<W>) -> fmt::Result {
-        let name = step_word(self.0.step);
+        let name = letters(step_word(self.0.step));
         let left = self.0.left;
         let right = self.0.right;
         write!(
@@ -75,7 +64,7 @@ impl fmt::Display for Part {
 }
 
 /// The multipliers of rows, as they are written in a tree.
-fn write_parts<W: fmt::Write>(parts: &Parts, f: &mut fmt::Formatter<W>) -> fmt::Result {
+fn write_parts<W: fmt::Write>(parts: &Multipliers, f: &mut fmt::Formatter<W>) -> fmt::Result {
     write!(f, "refute")?;
     for (row, multiplier) in parts.as_slice() {
         write!(f, " {row} {multiplier}")?;
@@ -85,7 +74,7 @@ fn write_parts<W: fmt::Write>(parts: &Parts, f: &mut fmt::Formatter<W>) -> fmt::
 
 /// A step that is too wide, as it is written in a tree.
 fn write_wide<W: fmt::Write>(wide: &WideAt, f: &mut fmt::Formatter<W>) -> fmt::Result {
-    let name = step_word(wide.step);
+    let name = letters(step_word(wide.step));
     write!(
         f,
         "{name} {}/{} ",
@@ -104,7 +93,7 @@ fn write_wide<W: fmt::Write>(wide: &WideAt, f: &mut fmt::Formatter<W>) -> fmt::R
 
 /// An entry of a tree, as it is written.
 #[derive(Drop)]
-pub struct Line<'a>(pub &'a Entry);
+struct Line<'a>(&'a Entry);
 
 impl<'a> fmt::Display for Line<'a> {
     fn fmt<W: fmt::Write>(&self, f: &mut fmt::Formatter<W>) -> fmt::Result {
@@ -115,10 +104,7 @@ impl<'a> fmt::Display for Line<'a> {
                 value,
                 row,
             } => {
-                let side = match side {
-                    Side::Low => "low",
-                    Side::High => "high",
-                };
+                let side = letters(side_word(*side));
                 write!(f, "tighten {var} {side} {value} {row}")
             }
             Entry::Split { var, value } => write!(f, "split {var} {value}"),
@@ -129,5 +115,32 @@ impl<'a> fmt::Display for Line<'a> {
             Entry::Refute { parts } => write_parts(parts, f),
             Entry::Undone => write!(f, "open"),
         }
+    }
+}
+
+/// The entries of a tree, each on a line of its own.
+#[derive(Drop)]
+pub struct Entries<'a>(pub &'a [Entry]);
+
+impl<'a> fmt::Display for Entries<'a> {
+    fn fmt<W: fmt::Write>(&self, f: &mut fmt::Formatter<W>) -> fmt::Result {
+        for entry in self.0 {
+            write!(f, "\n  {}", Line(entry))?;
+        }
+        Ok(())
+    }
+}
+
+/// The constant and the terms of a form.
+#[derive(Drop)]
+pub struct Terms<'a>(pub &'a Form);
+
+impl<'a> fmt::Display for Terms<'a> {
+    fn fmt<W: fmt::Write>(&self, f: &mut fmt::Formatter<W>) -> fmt::Result {
+        write!(f, "{}", self.0.constant())?;
+        for term in self.0.terms() {
+            write!(f, " {}*x{}", term.coefficient, term.var)?;
+        }
+        Ok(())
     }
 }

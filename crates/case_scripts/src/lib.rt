@@ -1,4 +1,4 @@
-//! Lines of scripts of cases: their words, numbers, lists, bytes and texts.
+//! Scripts of cases: how one is played, and the words, numbers, lists, bytes and texts of its lines.
 #![tactic(auto)]
 
 ghost use Rattle.std.specs.Prelude.{◌≡◌, ℕ, List, [], ◌∷◌, ◌++◌, IfOk, OnOk};
@@ -7,9 +7,11 @@ ghost use Rattle.case_scripts.specs.Words.{AreListed, IsNextWord, IsNumberOrZero
 ghost use Rattle.case_scripts.specs.Escapes.{bytes_of, hex_byte, unescaped};
 
 mod entries;
+mod script;
 mod texts;
 
-pub use entries::{Line, Named, Part, Step};
+pub use entries::{Entries, Named, Part, Step, Terms};
+pub use script::{Script, play_all};
 use std::alloc::{AllocError, Global};
 use std::fmt;
 use std::str::{FromStr, SplitWhitespace};
@@ -92,6 +94,19 @@ impl<'a, T: fmt::Display> fmt::Display for Written<'a, T> {
         write!(f, "{first}")?;
         for thing in rest {
             write!(f, ",{thing}")?;
+        }
+        Ok(())
+    }
+}
+
+/// A list as it is written, a blank before each thing.
+#[derive(Drop)]
+pub struct Spaced<'a, T>(pub &'a [T]);
+
+impl<'a, T: fmt::Display> fmt::Display for Spaced<'a, T> {
+    fn fmt<W: fmt::Write>(&self, f: &mut fmt::Formatter<W>) -> fmt::Result {
+        for thing in self.0 {
+            write!(f, " {thing}")?;
         }
         Ok(())
     }

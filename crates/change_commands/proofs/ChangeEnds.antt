@@ -3,12 +3,12 @@ use Rattle.std.proofs.Common.{◌≡◌, ℕ, List}
 use Rattle.cost_base.specs.declared.Status.TheVariants as status
 use Rattle.design_problem.specs.Rows.{IsFit}
 use Rattle.design_problem.specs.ProblemLaws.{HasNoFit}
-use Rattle.command_words.specs.Jobs.{SearchLimits}
+use Rattle.wide_fraction.specs.SearchLimits.{SearchLimits}
 use Rattle.input_files.specs.Outcomes.{Input}
 use Rattle.least_change.specs.declared.change.Change.{Change}
 use Rattle.least_change.specs.declared.change.Change.TheVariants.{Fewest, Impossible, Undecided}
 use Rattle.least_change.specs.Changes.{IsChangeFound}
-use Rattle.least_change.specs.Laws.{CannotBeUndecidedOnChanges}
+use Rattle.least_change.specs.Laws.{IsSufficientForChanges}
 use Rattle.least_change.proofs.Sufficient.{sufficient_settle}
 use Rattle.change_commands.specs.Changes.{ShowsChange, change_status, question_of}
 
@@ -37,7 +37,7 @@ fewest_fit limits d bytes shown = by_found shown.change shown.found shown.status
     by_found : (change : Change) → IsChangeFound (question_of limits d) change → change_status change ≡ status.Done → (w : List ℕ) × IsFit d.problem w
     by_found (Fewest w evidence) found is = (w, found.fewest.fit)
     by_found (Impossible rows tree) found is = absurd (impossible_done is)
-    by_found (Undecided w evidence stuck) found is = absurd (undecided_done is)
+    by_found (Undecided w evidence undecided) found is = absurd (undecided_done is)
 
 -- with status 1 none are
 pub none_fit : (limits : SearchLimits) (d : Input) (bytes : List ℕ) → ShowsChange limits d status.Impossible bytes → HasNoFit d.problem
@@ -46,14 +46,14 @@ none_fit limits d bytes shown = by_found shown.change shown.found shown.status
     by_found : (change : Change) → IsChangeFound (question_of limits d) change → change_status change ≡ status.Impossible → HasNoFit d.problem
     by_found (Fewest w evidence) found is = absurd (done_impossible is)
     by_found (Impossible rows tree) found is = found.none
-    by_found (Undecided w evidence stuck) found is = absurd (undecided_impossible is)
+    by_found (Undecided w evidence undecided) found is = absurd (undecided_impossible is)
 
 -- where the budget can't be used up, the status isn't 2
-pub never_unknown : (limits : SearchLimits) (d : Input) (bytes : List ℕ) → CannotBeUndecidedOnChanges (question_of limits d) →
+pub never_unknown : (limits : SearchLimits) (d : Input) (bytes : List ℕ) → IsSufficientForChanges (question_of limits d) →
     ShowsChange limits d status.Undecided bytes → ⊥
 never_unknown limits d bytes cannot shown = by_found shown.change shown.found shown.status
   where
     by_found : (change : Change) → IsChangeFound (question_of limits d) change → change_status change ≡ status.Undecided → ⊥
     by_found (Fewest w evidence) found is = done_undecided is
     by_found (Impossible rows tree) found is = impossible_undecided is
-    by_found (Undecided w evidence stuck) found is = sufficient_settle (question_of limits d) (Undecided w evidence stuck) cannot found
+    by_found (Undecided w evidence undecided) found is = sufficient_settle (question_of limits d) (Undecided w evidence undecided) cannot found

@@ -6,7 +6,7 @@ use Rattle.lsdb_build.specs.Graphs.{Database}
 use Rattle.design_problem.specs.Problems.{DesignProblem}
 use Rattle.design_problem.specs.Answers.{greatest_bound}
 use Rattle.request_reader.specs.Asked.{Asked}
-use Rattle.command_words.specs.Jobs.{SearchLimits}
+use Rattle.wide_fraction.specs.SearchLimits.{SearchLimits}
 use Rattle.input_files.specs.declared.network.Network.{Network}
 use Rattle.input_files.specs.declared.problem.View.TheVariants.{BesidePresent}
 use Rattle.input_files.specs.declared.stop.Stop.{Stop}
@@ -37,21 +37,21 @@ found_may limits d change ready small found = by_change change found (shown_back
         MayChange limits d (change_status one) (change_text d.asked d.database d.problem one)
     by_change (Fewest w evidence) holds back = record { change = Fewest w evidence; found = holds; status = refl; spelled = refl; back = back }
     by_change (Impossible rows tree) holds back = record { change = Impossible rows tree; found = holds; status = refl; spelled = refl; back = back }
-    by_change (Undecided w evidence stuck) holds back =
-        record { change = Undecided w evidence stuck; found = holds; status = refl; spelled = refl; back = back }
+    by_change (Undecided w evidence undecided) holds back =
+        record { change = Undecided w evidence undecided; found = holds; status = refl; spelled = refl; back = back }
 
 -- what holds of a network's parts holds of those of its input
 of_input : (P : Asked → Database → DesignProblem → Type 0) (names : InputFiles) (network : Network) (d : Input) →
-    IsNetworkOf BesidePresent names network d → P network.requests network.lsdb network.problem → P d.asked d.database d.problem
+    IsNetworkOf BesidePresent names network d → P network.request_file network.lsdb network.problem → P d.asked d.database d.problem
 of_input P names network d of holds =
-    subst (λ (a : Asked). P a d.database d.problem) of.requests
-    (subst (λ (b : Database). P network.requests b d.problem) of.lsdb
-    (subst (λ (p : DesignProblem). P network.requests network.lsdb p) of.problem holds))
+    subst (λ (a : Asked). P a d.database d.problem) of.request_file
+    (subst (λ (b : Database). P network.request_file b d.problem) of.lsdb
+    (subst (λ (p : DesignProblem). P network.request_file network.lsdb p) of.problem holds))
 
 -- the report of what was found of the network that was read
 change_found : (Given : List Taken → Type 0) (limits : SearchLimits) (names : InputFiles) (network : Network) (report : Report) →
     Gave Given (λ came. IsReadAndMade (outcome BesidePresent names) came (IsNetworkOf BesidePresent names) network) →
-    IsReportIn limits network.requests network.lsdb network.problem report →
+    IsReportIn limits network.request_file network.lsdb network.problem report →
     Gave Given (λ came. IsReadAndMade (outcome BesidePresent names) came
     (λ (made : Report) d. MayChange limits d made.status (bytes_in made.text)) report)
 change_found Given limits names network report read told =
@@ -71,7 +71,7 @@ change_found Given limits names network report read told =
 -- what the report of the network that was read came to
 pub change_ended : (Given : List Taken → Type 0) (limits : SearchLimits) (names : InputFiles) (network : Network) (result : Result Report Stop) →
     Gave Given (λ came. IsReadAndMade (outcome BesidePresent names) came (IsNetworkOf BesidePresent names) network) →
-    IfOk result (IsReportIn limits network.requests network.lsdb network.problem) →
+    IfOk result (IsReportIn limits network.request_file network.lsdb network.problem) →
     IfErr result (λ stop. stop ≡ stops.OutOfMemory) →
     Gave Given (λ came. IsReadAs (outcome BesidePresent names) came
     (λ (made : Report) d. MayChange limits d made.status (bytes_in made.text)) result)

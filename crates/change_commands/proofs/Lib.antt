@@ -4,7 +4,7 @@ pub mod PresentCosts
 pub mod ShortLines
 pub mod ChangeRuns
 pub mod ChangeEnds
-pub mod PlanLaws
+pub mod WantedMoveLaws
 pub mod StepRuns
 pub mod StepTexts
 pub mod ChangesBack

@@ -33,7 +33,7 @@ asked_present a d p present built costs =
 
 -- the problem is that of the requests
 pub network_built : (names : InputFiles) (network : Network) (d : Input) → IsNetworkOf BesidePresent names network d →
-    network.problem ≡ problem_of network.requests network.lsdb
+    network.problem ≡ problem_of network.request_file network.lsdb
 network_built names network d of =
-    of.problem ∙ (beside_present names d of.resolved).1 ∙ ap (λ (a : Asked). problem_of a d.database) (sym of.requests)
-    ∙ ap (λ (b : Database). problem_of network.requests b) (sym of.lsdb)
+    of.problem ∙ (beside_present names d of.resolved).1 ∙ ap (λ (a : Asked). problem_of a d.database) (sym of.request_file)
+    ∙ ap (λ (b : Database). problem_of network.request_file b) (sym of.lsdb)

@@ -1,7 +1,6 @@
-pub mod FaultNumbers
 pub mod ChangedLines
 pub mod Changes
 pub mod ShortParts
-pub mod Plans
+pub mod WantedMoves
 pub mod SeenLinks
 pub mod Steps

@@ -17,22 +17,23 @@ use Rattle.change_steps.specs.declared.found.Stuck.{Stuck}
 use Rattle.change_steps.specs.declared.found.Outcome.{Outcome}
 use Rattle.change_steps.specs.declared.found.Outcome.TheVariants.{Order, NoOrder, Undecided}
 use Rattle.change_steps.specs.declared.found.Steps.{Steps}
-use Rattle.change_steps.specs.Rollouts.{CostMoves, Rollout, lines_of_step}
+use Rattle.change_steps.specs.Rollouts.{CostMoves, Rollout, variables_of_step}
 use Rattle.change_steps.specs.Outcomes.{AreStepsFound}
 use Rattle.command_words.specs.declared.job.StepUnit.{StepUnit}
 use Rattle.command_words.specs.declared.job.StepUnit.TheVariants as unit
+use Rattle.printed_parts.specs.SharedParts.{counted_line}
 use Rattle.report_writer.specs.declared.rejection.Rejection.{Rejection}
 use Rattle.report_writer.specs.declared.report.Report.{Report}
 use Rattle.report_writer.specs.Reports.{Reports}
 use Rattle.report_writer.specs.Texts.{rejected_line}
-use Rattle.change_commands.specs.declared.fault.PlanFault.{PlanFault}
-use Rattle.change_commands.specs.declared.fault.PlanFault.TheVariants.{NoCosts}
-use Rattle.change_commands.specs.FaultNumbers.{plan_fault_number}
-use Rattle.change_commands.specs.Plans.{Plan, first_line_fault, moves_of, rollout_of}
+use Rattle.sections_reader.specs.declared.fault.CostsFault.{CostsFault}
+use Rattle.sections_reader.specs.declared.fault.CostsFault.TheVariants.{NoCosts}
+use Rattle.sections_reader.specs.FaultNumbers.{costs_fault_number}
+use Rattle.change_commands.specs.WantedMoves.{StepsInput, first_line_fault, moves_of, rollout_of}
 
 -- the number of the first link of a step
 abbrev pub link_of_step : CostMoves → ℕ → ℕ
-link_of_step m k = slice_index (lines_of_step m k) 0
+link_of_step m k = slice_index (variables_of_step m k) 0
 
 -- the words that name a step: `ROUTER INTERFACE`, or `ROUTER`
 abbrev pub step_name : StepUnit → Database → CostMoves → ℕ → List (List ℕ)
@@ -43,7 +44,7 @@ step_name unit.Router d m k = link_router d (link_of_step m k) ∷ []
 abbrev pub step_words : StepUnit → CostMoves → ℕ → List (List ℕ)
 step_words unit.Line m k =
     decimal (slice_index m.present (link_of_step m k)) ∷ decimal (slice_index m.wanted (link_of_step m k)) ∷ []
-step_words unit.Router m k = decimal (length (lines_of_step m k)) ∷ []
+step_words unit.Router m k = decimal (length (variables_of_step m k)) ∷ []
 
 -- the line of a step: `step I ROUTER INTERFACE OLD NEW` or `step I ROUTER COUNT`, where I counts the lines from 0
 abbrev pub step_line : StepUnit → Database → CostMoves → ℕ → ℕ → List ℕ
@@ -69,7 +70,7 @@ stuck_line by d m blocked = spaced (codes "stuck" ∷ step_name by d m blocked.s
 
 -- the line `held COUNT I ..` with the numbers of the held paths
 abbrev pub held_line : List ℕ → List ℕ
-held_line held = spaced (codes "held" ∷ decimal (length held) ∷ map decimal held)
+held_line held = counted_line (codes "held") held
 
 -- the lines of a state from which no order goes on: the steps that were done, and what stops each other one
 abbrev pub stuck_lines : StepUnit → Database → CostMoves → Stuck → List (List ℕ)
@@ -98,42 +99,42 @@ pub record ReportsSteps (nodes : ℕ) (by : StepUnit) (d : Database) (r : Rollou
   pub found : AreStepsFound r nodes steps
   pub reports : Reports (outcome_status steps.outcome) (steps_text by d r.moves steps) report
 
--- The bytes are the text of what was found of the steps, which has this status: those from the present costs to the ones that
--- the text of the plan says.
-pub record ShowsSteps (nodes : ℕ) (by : StepUnit) (plan : Plan) (aim : Status) (bytes : List ℕ) : Type 0 where
+-- The bytes are the text of what was found of the steps, which has this status: those from the present costs to the
+-- ones that the text says.
+pub record ShowsSteps (nodes : ℕ) (by : StepUnit) (handed : StepsInput) (aim : Status) (bytes : List ℕ) : Type 0 where
   pub lines : List CostLine
-  pub said : SaysCosts plan.bytes (Some lines)
-  pub faultless : first_line_fault plan.input.database lines ≡ None
+  pub said : SaysCosts handed.bytes (Some lines)
+  pub faultless : first_line_fault handed.input.database lines ≡ None
   pub steps : Steps
-  pub found : AreStepsFound (rollout_of by plan.input lines) nodes steps
+  pub found : AreStepsFound (rollout_of by handed.input lines) nodes steps
   pub status : outcome_status steps.outcome ≡ aim
-  pub spelled : bytes ≡ steps_text by plan.input.database (moves_of by plan.input lines) steps
+  pub spelled : bytes ≡ steps_text by handed.input.database (moves_of by handed.input lines) steps
 
--- a plan is refused, since its text says that there are no costs
+-- a text with the wanted costs is refused, since it says that there are none
 pub record SaysNoCosts (bytes : List ℕ) (rejection : Rejection) : Type 0 where
   pub said : SaysCosts bytes None
-  pub number : rejection.number ≡ plan_fault_number NoCosts
+  pub number : rejection.number ≡ costs_fault_number NoCosts
   pub place : rejection.place ≡ 0
 
--- a plan is refused, since a cost line of its text names no linked interface, or that of an earlier line
-pub record HasFaultyLine (plan : Plan) (rejection : Rejection) : Type 0 where
+-- a text with the wanted costs is refused, since a cost line names no linked interface, or that of an earlier line
+pub record HasFaultyLine (handed : StepsInput) (rejection : Rejection) : Type 0 where
   pub lines : List CostLine
-  pub said : SaysCosts plan.bytes (Some lines)
-  pub fault : PlanFault
-  pub first : first_line_fault plan.input.database lines ≡ Some fault
-  pub number : rejection.number ≡ plan_fault_number fault
+  pub said : SaysCosts handed.bytes (Some lines)
+  pub fault : CostsFault
+  pub first : first_line_fault handed.input.database lines ≡ Some fault
+  pub number : rejection.number ≡ costs_fault_number fault
   pub place : rejection.place ≡ 0
 
--- why a plan is refused: its text is off the grammar, says no costs, or has a faulty cost line
-abbrev pub IsPlanRefused : Plan → Rejection → Type 0
-IsPlanRefused plan rejection =
-    IsOffGrammar (start_of_bytes plan.bytes) plan.bytes rejection.number rejection.place
-    ⊎ SaysNoCosts plan.bytes rejection ⊎ HasFaultyLine plan rejection
+-- why a text with the wanted costs is refused: it is off the grammar, says no costs, or has a faulty cost line
+abbrev pub IsStepsInputRefused : StepsInput → Rejection → Type 0
+IsStepsInputRefused handed rejection =
+    IsOffGrammar (start_of_bytes handed.bytes) handed.bytes rejection.number rejection.place
+    ⊎ SaysNoCosts handed.bytes rejection ⊎ HasFaultyLine handed rejection
 
 -- what `steps` may write: a safe order; that there is none; that the budget was used up; or that the text is refused
-abbrev pub MaySteps : ℕ → StepUnit → Plan → Status → List ℕ → Type 0
-MaySteps nodes by plan status.Done bytes = ShowsSteps nodes by plan status.Done bytes
-MaySteps nodes by plan status.Impossible bytes = ShowsSteps nodes by plan status.Impossible bytes
-MaySteps nodes by plan status.Undecided bytes = ShowsSteps nodes by plan status.Undecided bytes
-MaySteps nodes by plan status.EvidenceRefused bytes = (rejection : Rejection) × IsPlanRefused plan rejection × (bytes ≡ rejected_line rejection)
-MaySteps nodes by plan other bytes = ⊥
+abbrev pub MaySteps : ℕ → StepUnit → StepsInput → Status → List ℕ → Type 0
+MaySteps nodes by handed status.Done bytes = ShowsSteps nodes by handed status.Done bytes
+MaySteps nodes by handed status.Impossible bytes = ShowsSteps nodes by handed status.Impossible bytes
+MaySteps nodes by handed status.Undecided bytes = ShowsSteps nodes by handed status.Undecided bytes
+MaySteps nodes by handed status.EvidenceRefused bytes = (rejection : Rejection) × IsStepsInputRefused handed rejection × (bytes ≡ rejected_line rejection)
+MaySteps nodes by handed other bytes = ⊥

@@ -1,6 +1,6 @@
 //! `change`: the fewest changes of present costs for the requests of the files of words.
 ghost use Rattle.std.specs.Prelude.{◌≡◌, ℕ, ◌≤◌, IfErr, IfOk};
-ghost use Rattle.command_words.specs.Jobs.{limits_seen};
+ghost use Rattle.wide_fraction.specs.SearchLimits.{limits_seen};
 ghost use Rattle.input_files.specs.Readings.{Gave};
 ghost use Rattle.input_files.specs.Outcomes.{outcome};
 ghost use Rattle.input_files.specs.Stops.{IsReadAs, files_named};
@@ -12,8 +12,7 @@ ghost use Rattle.change_commands.specs.Changes.{IsReportIn, MayChange, change_st
 
 use crate::change_text::{fewest_text, impossible_text, undecided_text};
 use cost_base::{OutOfMemory, Shelf, Status};
-use cost_branching::keeps_conditions;
-use design_problem::Problem;
+use design_problem::{Problem, keeps_problem_on_graph};
 use input_files::{FileWords, Network, Stop, View, read_network};
 use least_change::{Change, change_count, find_change};
 use present_costs::present_of_variables;
@@ -40,8 +39,9 @@ fn text_of_change(
     present: &[Option<u16>],
     change: &Change,
 ) -> Result<Vec<u8>, OutOfMemory>
-    requires built { network.now.problem ≡ problem_of network.now.requests network.now.lsdb }
-    requires present { present.now ≡ present_of_variables network.now.requests network.now.lsdb }
+    requires built { network.now.problem ≡ problem_of network.now.request_file network.now.lsdb }
+    requires present { present.now ≡ present_of_variables network.now.request_file
+        network.now.lsdb }
     requires found { (top : ℕ) × (nodes : ℕ) × (nodes ≤ 10000000) ×
         IsChangeFound (record {
           problem = network.now.problem;
@@ -49,10 +49,10 @@ fn text_of_change(
           top = top;
           nodes = nodes;
         }) change.now }
-    ensures { IfOk result (λ text. text.items ≡ change_text network.now.requests network.now.lsdb
-        network.now.problem change.now) }
+    ensures { IfOk result (λ text. text.items ≡ change_text network.now.request_file
+        network.now.lsdb network.now.problem change.now) }
 {
-    keeps_conditions(&network.problem);
+    keeps_problem_on_graph(&network.problem);
     keeps_greatest_bound(&network.problem);
     match change {
         Change::Fewest { costs, evidence } => {
@@ -65,8 +65,8 @@ fn text_of_change(
         Change::Undecided {
             costs,
             evidence,
-            open,
-        } => undecided_text(alloc, network, costs.as_ref(), evidence, open.as_ref()),
+            undecided,
+        } => undecided_text(alloc, network, costs.as_ref(), evidence, undecided.as_ref()),
     }
 }
 
@@ -77,8 +77,9 @@ fn report_of_change(
     present: &[Option<u16>],
     change: &Change,
 ) -> Result<Report, OutOfMemory>
-    requires built { network.now.problem ≡ problem_of network.now.requests network.now.lsdb }
-    requires present { present.now ≡ present_of_variables network.now.requests network.now.lsdb }
+    requires built { network.now.problem ≡ problem_of network.now.request_file network.now.lsdb }
+    requires present { present.now ≡ present_of_variables network.now.request_file
+        network.now.lsdb }
     requires found { (top : ℕ) × (nodes : ℕ) × (nodes ≤ 10000000) ×
         IsChangeFound (record {
           problem = network.now.problem;
@@ -87,7 +88,7 @@ fn report_of_change(
           nodes = nodes;
         }) change.now }
     ensures { IfOk result
-        (Reports (change_status change.now) (change_text network.now.requests network.now.lsdb
+        (Reports (change_status change.now) (change_text network.now.request_file network.now.lsdb
         network.now.problem change.now)) }
 {
     let text = text_of_change(alloc, network, present, change)?;
@@ -101,10 +102,11 @@ fn report_of_present(
     present: &[Option<u16>],
     limits: &Limits,
 ) -> Result<Report, OutOfMemory>
-    requires built { network.now.problem ≡ problem_of network.now.requests network.now.lsdb }
-    requires present { present.now ≡ present_of_variables network.now.requests network.now.lsdb }
-    ensures { IfOk result (IsReportIn (limits_seen limits.now) network.now.requests network.now.lsdb
-        network.now.problem) }
+    requires built { network.now.problem ≡ problem_of network.now.request_file network.now.lsdb }
+    requires present { present.now ≡ present_of_variables network.now.request_file
+        network.now.lsdb }
+    ensures { IfOk result (IsReportIn (limits_seen limits.now) network.now.request_file
+        network.now.lsdb network.now.problem) }
 {
     keeps_greatest_bound(&network.problem);
     let change = find_change(alloc, &network.problem, present, limits)?;
@@ -120,12 +122,17 @@ fn report_of_network<'a>(
     network: &Network,
     limits: &Limits,
 ) -> Result<Report, Stop<'a>>
-    requires { network.now.problem ≡ problem_of network.now.requests network.now.lsdb }
-    ensures made { IfOk result (IsReportIn (limits_seen limits.now) network.now.requests
+    requires { network.now.problem ≡ problem_of network.now.request_file network.now.lsdb }
+    ensures made { IfOk result (IsReportIn (limits_seen limits.now) network.now.request_file
         network.now.lsdb network.now.problem) }
     ensures wanting { IfErr result (λ stop. stop ≡ Stop.OutOfMemory) }
 {
-    let costs = present_of_variables(alloc, &network.requests, &network.lsdb, &network.problem)?;
+    let costs = present_of_variables(
+        alloc,
+        &network.request_file,
+        &network.lsdb,
+        &network.problem,
+    )?;
     Ok(report_of_present(alloc, network, costs.as_slice(), limits)?)
 }
 

@@ -1,19 +1,19 @@
 //! The cost lines that differ from the present ones.
-ghost use Rattle.std.specs.Prelude.{◌≡◌, [], ◌++◌, slice_index_or, IfOk, OnOk};
+ghost use Rattle.std.specs.Prelude.{◌≡◌, ◌++◌, IfOk, OnOk};
 ghost use Rattle.lsdb_build.specs.Graphs.{IsAreaDatabase};
 ghost use Rattle.path_requests.specs.Meaning.{problem_of};
 ghost use Rattle.change_commands.specs.ChangedLines.{changed_lines, line_with, changed_cost};
 
 use area_graph::{Graph, Price};
-use cost_base::{Name, OutOfMemory};
-use design_problem::CostLine;
+use cost_base::OutOfMemory;
+use design_problem::{CostLine, cost_line};
 use input_files::Network;
 use lsdb_build::{Linked, Lsdb};
 use path_requests::present_cost;
 use present_costs::price_of_link;
 use std::alloc::Global;
 
-/// The graph of a network's problem.
+/// The graph of a network's problem. For the prover: a call, so that the caller's goals have this part alone.
 fn graph_of(network: &Network) -> &Graph
     ensures { result.now ≡ network.now.problem.graph }
 {
@@ -36,22 +36,6 @@ fn changed_cost(price: Price, present: u16, costs: &[u16]) -> Option<u16>
     }
 }
 
-/// The line that gives a link a cost.
-fn cost_line(alloc: Global, lsdb: &Lsdb, link: &Linked, cost: u16) -> Result<CostLine, OutOfMemory>
-    ensures { IfOk result
-        (λ line. line ≡ record {
-          router = slice_index_or lsdb.now.routers link.now.router [];
-          interface = link.now.interface;
-          cost = cost;
-        }) }
-{
-    Ok(CostLine {
-        router: Name::from_bytes(alloc, lsdb.router_name(link.router))?,
-        interface: Name::from_bytes(alloc, link.interface.as_bytes())?,
-        cost,
-    })
-}
-
 /// Adds the line of a link that has a new cost.
 fn push_changed(
     alloc: Global,
@@ -63,7 +47,8 @@ fn push_changed(
     ensures { OnOk result (lines.new.items ≡ lines.old.items ++ line_with lsdb.now link.now cost) }
 {
     if let Some(cost) = cost {
-        let line = cost_line(alloc, lsdb, link, cost)?;
+        let router = lsdb.router_name(link.router);
+        let line = cost_line(alloc, router, link.interface.as_bytes(), cost)?;
         lines.push(line)?;
     }
     Ok(())
@@ -80,8 +65,8 @@ pub(crate) fn changed_lines(
     network: &Network,
     costs: &[u16],
 ) -> Result<Vec<CostLine>, OutOfMemory>
-    requires { network.now.problem ≡ problem_of network.now.requests network.now.lsdb }
-    ensures { IfOk result (λ lines. lines.items ≡ changed_lines network.now.requests
+    requires { network.now.problem ≡ problem_of network.now.request_file network.now.lsdb }
+    ensures { IfOk result (λ lines. lines.items ≡ changed_lines network.now.request_file
         network.now.lsdb costs.now) }
 {
     let graph = graph_of(network);
@@ -89,7 +74,7 @@ pub(crate) fn changed_lines(
     for (i, link) in network.lsdb.links().iter().enumerate() {
         let cost = changed_cost(
             price_of_link(graph, i as u32),
-            present_cost(&network.requests, link),
+            present_cost(&network.request_file, link),
             costs,
         );
         push_changed(alloc, &mut lines, &network.lsdb, link, cost)?;

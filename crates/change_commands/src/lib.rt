@@ -5,10 +5,9 @@
 mod change;
 mod change_text;
 mod changed_lines;
-mod fault;
-mod plan;
 mod step_text;
 mod steps;
+mod wanted_moves;
 
 pub use change::change_report;
 pub use steps::{StepsWords, steps_report};

@@ -1,17 +1,17 @@
 //! The text of `steps`.
 ghost use Rattle.std.specs.Prelude.{◌≡◌, [], ◌∷◌, ◌++◌, codes, slice_index, IfOk, OnOk};
 ghost use Rattle.text_lines.specs.Lines.{with_ends};
-ghost use Rattle.evidence_text.specs.Lines.{with_words};
-ghost use Rattle.change_steps.specs.Rollouts.{lines_of_step};
+ghost use Rattle.line_builder.specs.Words.{with_words};
+ghost use Rattle.change_steps.specs.Rollouts.{variables_of_step};
 ghost use Rattle.change_commands.specs.Steps.{barrier_word, held_line, link_of_step, outcome_lines};
 ghost use Rattle.change_commands.specs.Steps.{step_line, step_name, step_words, steps_lines, steps_text, stuck_line, stuck_lines};
 
 use change_steps::{Barrier, Blocked, Moves, Outcome, Steps, Stuck};
 use command_words::StepUnit;
 use cost_base::OutOfMemory;
-use printed_parts::{counted_line, head_lines, push_count, push_count_line, push_line, push_word};
+use line_builder::{LineBuilder, push_count_line, push_line};
+use printed_parts::counted_head;
 use std::alloc::Global;
-use text_lines::push_bytes;
 use wanted_paths::Names;
 
 /// Whose names and costs stand in the lines of steps, and what one step is.
@@ -24,7 +24,7 @@ struct StepNames<'a> {
 
 /// The links of a step.
 fn links_of_step(moves: &Moves, step: usize) -> &[u32]
-    ensures { result.now ≡ lines_of_step moves.now step }
+    ensures { result.now ≡ variables_of_step moves.now step }
 {
     match moves.steps.as_slice().get(step) {
         Some(links) => links.as_slice(),
@@ -52,48 +52,39 @@ fn cost_of_link(costs: &[u16], link: u32) -> u16
     }
 }
 
-/// Adds a name behind a space.
-fn push_name(line: &mut Vec<u8>, name: &[u8]) -> Result<(), OutOfMemory>
-    ensures { OnOk result (line.new.items ≡ line.old.items ++ 32 ∷ name.now) }
-{
-    push_bytes(line, b" ")?;
-    push_bytes(line, name)
-}
-
 /// Adds the words that name a step, each behind a space.
-fn push_step_name(line: &mut Vec<u8>, of: StepNames, step: usize) -> Result<(), OutOfMemory>
-    ensures { OnOk result (line.new.items ≡ with_words line.old.items
+fn push_step_name(line: &mut LineBuilder, of: StepNames, step: usize) -> Result<(), OutOfMemory>
+    ensures { OnOk result (line.new ≡ with_words line.old
         (step_name of.entry.by of.entry.names.now of.entry.moves.now step)) }
 {
     let link = link_of_step(of.moves, step);
-    push_name(line, of.names.link_router(link))?;
+    line.word(of.names.link_router(link))?;
     match of.by {
-        StepUnit::Line => push_name(line, of.names.link_interface(link)),
+        StepUnit::Line => line.word(of.names.link_interface(link)),
         StepUnit::Router => Ok(()),
     }
 }
 
 /// Adds the present and the wanted cost of a step's link, each behind a space.
-fn push_costs_of_step(line: &mut Vec<u8>, moves: &Moves, step: usize) -> Result<(), OutOfMemory>
-    ensures { OnOk result (line.new.items ≡ with_words line.old.items
+fn push_costs_of_step(line: &mut LineBuilder, moves: &Moves, step: usize) -> Result<(), OutOfMemory>
+    ensures { OnOk result (line.new ≡ with_words line.old
         (step_words StepUnit.Line moves.now step)) }
 {
     let link = link_of_step(moves, step);
-    push_word(
-        line,
-        u32::from(cost_of_link(moves.present.as_slice(), link)),
-    )?;
-    push_word(line, u32::from(cost_of_link(moves.wanted.as_slice(), link)))
+    let present = cost_of_link(moves.present.as_slice(), link);
+    let wanted = cost_of_link(moves.wanted.as_slice(), link);
+    line.number(u128::from(present))?;
+    line.number(u128::from(wanted))
 }
 
 /// Adds the words of what a step does, each behind a space.
-fn push_step_words(line: &mut Vec<u8>, of: StepNames, step: usize) -> Result<(), OutOfMemory>
-    ensures { OnOk result (line.new.items ≡ with_words line.old.items
+fn push_step_words(line: &mut LineBuilder, of: StepNames, step: usize) -> Result<(), OutOfMemory>
+    ensures { OnOk result (line.new ≡ with_words line.old
         (step_words of.entry.by of.entry.moves.now step)) }
 {
     match of.by {
         StepUnit::Line => push_costs_of_step(line, of.moves, step),
-        StepUnit::Router => push_count(line, links_of_step(of.moves, step).len() as u64),
+        StepUnit::Router => line.number(links_of_step(of.moves, step).len() as u128),
     }
 }
 
@@ -103,12 +94,12 @@ fn step_line(
     of: StepNames,
     number: usize,
     step: usize,
-) -> Result<Vec<u8>, OutOfMemory>
-    ensures { IfOk result (λ line. line.items ≡ step_line of.entry.by of.entry.names.now
+) -> Result<LineBuilder, OutOfMemory>
+    ensures { IfOk result (λ line. line ≡ step_line of.entry.by of.entry.names.now
         of.entry.moves.now number step) }
 {
-    let mut line = Vec::from_slice(alloc, b"step")?;
-    push_count(&mut line, number as u64)?;
+    let mut line = LineBuilder::new(alloc, b"step")?;
+    line.number(number as u128)?;
     push_step_name(&mut line, of, step)?;
     push_step_words(&mut line, of, step)?;
     Ok(line)
@@ -126,7 +117,7 @@ fn push_step(
         (step_line of.entry.by of.entry.names.now of.entry.moves.now number step ∷ [])) }
 {
     let line = step_line(alloc, of, number, step)?;
-    push_line(text, line.as_slice())
+    line.end_in(text)
 }
 
 /// Adds the lines of steps.
@@ -147,21 +138,21 @@ fn push_steps(
 }
 
 /// Adds the word of what is in the way of a step, behind a space.
-fn push_barrier(line: &mut Vec<u8>, barrier: Barrier) -> Result<(), OutOfMemory>
-    ensures { OnOk result (line.new.items ≡ line.old.items ++ 32 ∷ barrier_word barrier) }
+fn push_barrier(line: &mut LineBuilder, barrier: Barrier) -> Result<(), OutOfMemory>
+    ensures { OnOk result (line.new ≡ line.old ++ 32 ∷ barrier_word barrier) }
 {
     match barrier {
-        Barrier::Path(path) => push_word(line, path),
-        Barrier::Untested => push_name(line, b"untested"),
+        Barrier::Path(path) => line.number(u128::from(path)),
+        Barrier::Untested => line.word(b"untested"),
     }
 }
 
 /// The line of a step that can't follow.
-fn stuck_line(alloc: Global, of: StepNames, blocked: Blocked) -> Result<Vec<u8>, OutOfMemory>
-    ensures { IfOk result (λ line. line.items ≡ stuck_line of.entry.by of.entry.names.now
+fn stuck_line(alloc: Global, of: StepNames, blocked: Blocked) -> Result<LineBuilder, OutOfMemory>
+    ensures { IfOk result (λ line. line ≡ stuck_line of.entry.by of.entry.names.now
         of.entry.moves.now blocked) }
 {
-    let mut line = Vec::from_slice(alloc, b"stuck")?;
+    let mut line = LineBuilder::new(alloc, b"stuck")?;
     push_step_name(&mut line, of, blocked.step)?;
     push_barrier(&mut line, blocked.by)?;
     Ok(line)
@@ -178,7 +169,7 @@ fn push_blocked(
         (stuck_line of.entry.by of.entry.names.now of.entry.moves.now blocked ∷ [])) }
 {
     let line = stuck_line(alloc, of, blocked)?;
-    push_line(text, line.as_slice())
+    line.end_in(text)
 }
 
 /// Adds the lines of how far a search came.
@@ -204,10 +195,7 @@ fn head_of(alloc: Global, verdict: &[u8], held: &[u32]) -> Result<Vec<u8>, OutOf
         (λ text. text.items ≡ with_ends (codes "ospfcost steps 1" ∷ verdict.now ∷
         held_line held.now ∷ [])) }
 {
-    let held = counted_line(alloc, b"held", held.len() as u64, held)?;
-    let mut text = head_lines(alloc, b"ospfcost steps 1", verdict)?;
-    push_line(&mut text, held.as_slice())?;
-    Ok(text)
+    counted_head(alloc, b"ospfcost steps 1", verdict, b"held", held)
 }
 
 /// The text up to its last line.

@@ -2,8 +2,7 @@
 ghost use Rattle.std.specs.Prelude.{◌≡◌, ℕ, ◌<◌, ◌≤◌, Some, All, IfOk, length};
 ghost use Rattle.area_graph.specs.Costs.{IsPriced};
 ghost use Rattle.rival_separation.specs.Askers.{ArePathsOf};
-ghost use Rattle.evidence_reader.specs.Refusals.{IsReaderStop};
-ghost use Rattle.sections_reader.specs.Texts.{FitLines, SaysCosts, start_of_bytes};
+ghost use Rattle.sections_reader.specs.Texts.{FitLines, SaysCosts};
 ghost use Rattle.present_costs.specs.AtCosts.{graph_by_links};
 ghost use Rattle.present_costs.specs.PresentCosts.{present_of_links};
 ghost use Rattle.change_steps.specs.Outcomes.{AreStepsFound};
@@ -14,21 +13,19 @@ ghost use Rattle.input_files.specs.Outcomes.{Input, longest_answer};
 ghost use Rattle.input_files.specs.Readings.{Gave};
 ghost use Rattle.input_files.specs.Stops.{IsReadAs, files_named};
 ghost use Rattle.report_writer.specs.Reports.{Reports, bytes_in};
-ghost use Rattle.change_commands.specs.Plans.{IsAtPresent, IsPlanOf, Plan, moves_between, plan_read, plan_with};
-ghost use Rattle.change_commands.specs.Steps.{IsPlanRefused, MaySteps, ReportsSteps, outcome_status, steps_text};
+ghost use Rattle.change_commands.specs.WantedMoves.{IsAtPresent, IsStepsInputOf, StepsInput, moves_between, steps_read, steps_with};
+ghost use Rattle.change_commands.specs.Steps.{MaySteps, ReportsSteps, outcome_status, steps_text};
 
-use crate::fault::PlanFault;
-use crate::plan::{moves_to, wanted_costs};
 use crate::step_text::text_of_steps;
+use crate::wanted_moves::{moves_to, wanted_costs};
 use change_steps::{Moves, Outcome, Steps, find_steps};
 use command_words::StepUnit;
-use cost_base::{Fault, Listed, OutOfMemory, Refusal, Shelf, Status};
+use cost_base::{Listed, OutOfMemory, Shelf, Status};
 use design_problem::{CostLine, Problem, Request};
-use evidence_reader::AnswerFault;
 use input_files::{FileWords, Network, Stop, View, read_answer_file, read_network};
 use present_costs::{costs_of_links, priced_by_links};
-use report_writer::{Rejection, Report, rejected_line_of};
-use sections_reader::read_costs;
+use report_writer::{Rejection, Report, rejection_of};
+use sections_reader::{CostsFault, read_costs};
 use std::alloc::Global;
 use wanted_paths::Names;
 
@@ -55,39 +52,11 @@ fn status_of(outcome: &Outcome) -> Status
     }
 }
 
-/// The requests of a problem.
-fn paths_of(problem: &Problem) -> &[Request]
-    ensures { result.now ≡ problem.now.paths }
+/// The requests of a problem. For the prover: a call, so that the caller's goals have this part alone.
+fn requests_of(problem: &Problem) -> &[Request]
+    ensures { result.now ≡ problem.now.requests }
 {
-    problem.paths.as_slice()
-}
-
-/// The report of a text that is refused.
-fn report_of_rejection(alloc: Global, rejection: Rejection) -> Result<Report, OutOfMemory>
-    ensures { IfOk result (λ report. (nodes : ℕ) (by : StepUnit) (plan : Plan) →
-        IsPlanRefused plan rejection → MaySteps nodes by plan report.status
-        (bytes_in report.text)) }
-{
-    let text = rejected_line_of(alloc, rejection)?;
-    Ok(Report::made(Status::EvidenceRefused, text))
-}
-
-/// The report of a text that is off its grammar.
-fn report_of_stop(alloc: Global, stop: Refusal<AnswerFault>) -> Result<Report, OutOfMemory>
-    ensures { IfOk result (λ report. (nodes : ℕ) (by : StepUnit) (plan : Plan) →
-        IsReaderStop (start_of_bytes plan.bytes) 0 plan.bytes stop →
-        MaySteps nodes by plan report.status (bytes_in report.text)) }
-{
-    match stop {
-        Refusal::Refused { fault, place } => {
-            let rejection = Rejection {
-                number: fault.number(),
-                place: u64::from(place),
-            };
-            report_of_rejection(alloc, rejection)
-        }
-        Refusal::OutOfMemory => Err(OutOfMemory),
-    }
+    problem.requests.as_slice()
 }
 
 /// What is found of the steps of moves.
@@ -99,17 +68,17 @@ fn steps_of_moves(
 ) -> Result<Steps, OutOfMemory>
     requires priced { All (λ edge. IsPriced (length moves.now.present) edge.price)
         (graph_by_links network.now.lsdb).edges }
-    requires paths { ArePathsOf (graph_by_links network.now.lsdb) network.now.problem.paths }
-    requires few { length network.now.problem.paths ≤ 10000 }
+    requires requests { ArePathsOf (graph_by_links network.now.lsdb) network.now.problem.requests }
+    requires few { length network.now.problem.requests ≤ 10000 }
     ensures { IfOk result
         (AreStepsFound (record {
           graph = graph_by_links network.now.lsdb;
-          paths = network.now.problem.paths;
+          requests = network.now.problem.requests;
           moves = moves.now;
         }) nodes) }
 {
     let graph = priced_by_links(alloc, &network.lsdb)?;
-    let steps = find_steps(alloc, &graph, paths_of(&network.problem), moves, nodes);
+    let steps = find_steps(alloc, &graph, requests_of(&network.problem), moves, nodes);
     // For the prover alone: a call drops the graph, so that its parts' drops aren't written out at each exit.
     drop(graph);
     steps
@@ -140,12 +109,12 @@ fn report_of_moves(
 ) -> Result<Report, OutOfMemory>
     requires priced { All (λ edge. IsPriced (length moves.now.present) edge.price)
         (graph_by_links network.now.lsdb).edges }
-    requires paths { ArePathsOf (graph_by_links network.now.lsdb) network.now.problem.paths }
-    requires few { length network.now.problem.paths ≤ 10000 }
+    requires requests { ArePathsOf (graph_by_links network.now.lsdb) network.now.problem.requests }
+    requires few { length network.now.problem.requests ≤ 10000 }
     ensures { IfOk result (ReportsSteps words.entry.nodes words.entry.by names.now
         (record {
           graph = graph_by_links network.now.lsdb;
-          paths = network.now.problem.paths;
+          requests = network.now.problem.requests;
           moves = moves.now;
         })) }
 {
@@ -167,7 +136,7 @@ fn report_of_wanted(
     // The network is at its present costs, and has the database of the names.
     requires network { IsAtPresent network.now }
     requires names { names.now ≡ network.now.lsdb }
-    requires present { present.items ≡ present_of_links network.now.requests network.now.lsdb }
+    requires present { present.items ≡ present_of_links network.now.request_file network.now.lsdb }
 
     // Each link has a wanted cost, at least 1.
     requires wanted { length wanted.items ≡ length names.now.links }
@@ -177,7 +146,7 @@ fn report_of_wanted(
     ensures { IfOk result (ReportsSteps words.entry.nodes words.entry.by names.now
         (record {
           graph = graph_by_links network.now.lsdb;
-          paths = network.now.problem.paths;
+          requests = network.now.problem.requests;
           moves = moves_between words.entry.by names.now present.items wanted.items;
         })) }
 {
@@ -201,20 +170,14 @@ fn report_by_names(
     requires network { IsAtPresent network.now }
     requires names { names.now ≡ network.now.lsdb }
     requires lines { All (λ line. 0 < line.cost) lines.now }
-    ensures { IfOk result (λ report. (plan : Plan) → IsPlanOf network.now plan →
-        SaysCosts plan.bytes (Some lines.now) → MaySteps words.entry.nodes words.entry.by plan
+    ensures { IfOk result (λ report. (handed : StepsInput) → IsStepsInputOf network.now handed →
+        SaysCosts handed.bytes (Some lines.now) → MaySteps words.entry.nodes words.entry.by handed
         report.status (bytes_in report.text)) }
 {
-    let present = costs_of_links(alloc, &network.requests, &network.lsdb)?;
+    let present = costs_of_links(alloc, &network.request_file, &network.lsdb)?;
     match wanted_costs(alloc, names, &present, lines)? {
         Ok(wanted) => report_of_wanted(network, names, present, wanted, words),
-        Err(fault) => {
-            let rejection = Rejection {
-                number: fault.number(),
-                place: 0,
-            };
-            report_of_rejection(alloc, rejection)
-        }
+        Err(fault) => Report::rejected(alloc, Rejection::at(0, fault)),
     }
 }
 
@@ -227,8 +190,8 @@ fn report_of_lines(
 ) -> Result<Report, OutOfMemory>
     requires network { IsAtPresent network.now }
     requires lines { All (λ line. 0 < line.cost) lines.now }
-    ensures { IfOk result (λ report. (plan : Plan) → IsPlanOf network.now plan →
-        SaysCosts plan.bytes (Some lines.now) → MaySteps words.entry.nodes words.entry.by plan
+    ensures { IfOk result (λ report. (handed : StepsInput) → IsStepsInputOf network.now handed →
+        SaysCosts handed.bytes (Some lines.now) → MaySteps words.entry.nodes words.entry.by handed
         report.status (bytes_in report.text)) }
 {
     let names = Names::new(alloc, &network.lsdb)?;
@@ -247,19 +210,13 @@ fn report_of_costs(
 ) -> Result<Report, OutOfMemory>
     requires network { IsAtPresent network.now }
     requires lines { FitLines costs }
-    ensures { IfOk result (λ report. (plan : Plan) → IsPlanOf network.now plan →
-        SaysCosts plan.bytes costs → MaySteps words.entry.nodes words.entry.by plan report.status
-        (bytes_in report.text)) }
+    ensures { IfOk result (λ report. (handed : StepsInput) → IsStepsInputOf network.now handed →
+        SaysCosts handed.bytes costs → MaySteps words.entry.nodes words.entry.by handed
+        report.status (bytes_in report.text)) }
 {
     match costs {
         Some(lines) => report_of_lines(alloc, network, lines.as_slice(), words),
-        None => report_of_rejection(
-            alloc,
-            Rejection {
-                number: PlanFault::NoCosts.number(),
-                place: 0,
-            },
-        ),
+        None => Report::rejected(alloc, Rejection::at(0, CostsFault::NoCosts)),
     }
 }
 
@@ -272,13 +229,13 @@ fn report_of_text(
 ) -> Result<Report, OutOfMemory>
     requires network { IsAtPresent network.now }
     requires within { length bytes.now ≤ longest_answer }
-    ensures { IfOk result (λ report. (plan : Plan) → IsPlanOf network.now plan →
-        plan.bytes ≡ bytes.now → MaySteps words.entry.nodes words.entry.by plan report.status
+    ensures { IfOk result (λ report. (handed : StepsInput) → IsStepsInputOf network.now handed →
+        handed.bytes ≡ bytes.now → MaySteps words.entry.nodes words.entry.by handed report.status
         (bytes_in report.text)) }
 {
     match read_costs(alloc, bytes) {
         Ok(costs) => report_of_costs(alloc, network, costs, words),
-        Err(stop) => report_of_stop(alloc, stop),
+        Err(stop) => Report::rejected(alloc, rejection_of(stop)?),
     }
 }
 
@@ -292,8 +249,8 @@ fn report_by_file<'a, S: Shelf>(
     requires { IsAtPresent network.now }
     ensures { (names : InputFiles) → (d : Input) → IsNetworkOf AtPresent names network.now d →
         Gave (S.gave shelf.old shelf.new) (λ came. IsReadAs
-        (plan_with words.entry.answer.now d) came
-        (λ report plan. MaySteps words.entry.nodes words.entry.by plan report.status
+        (steps_with words.entry.answer.now d) came
+        (λ report handed. MaySteps words.entry.nodes words.entry.by handed report.status
         (bytes_in report.text)) result) }
 {
     let bytes = read_answer_file(alloc, shelf, words.answer)?;
@@ -314,8 +271,8 @@ pub fn steps_report<'a, S: Shelf>(
     shelf: &mut S,
 ) -> Result<Report, Stop<'a>>
     ensures { Gave (S.gave shelf.old shelf.new) (λ came. IsReadAs
-        (plan_read (files_named files.entry) words.entry.answer.now) came
-        (λ report plan. MaySteps words.entry.nodes words.entry.by plan report.status
+        (steps_read (files_named files.entry) words.entry.answer.now) came
+        (λ report handed. MaySteps words.entry.nodes words.entry.by handed report.status
         (bytes_in report.text)) result) }
 {
     let network = read_network(alloc, View::AtPresent, files, shelf)?;

@@ -4,13 +4,14 @@ use Rattle.std.proofs.lemmas.Bool.{cases_lt}
 use Rattle.std.proofs.lemmas.List.{ext_get_or, get_or-map, get_or-take, get_or_at, get_or_append_left, get_or_default, length-map, length-take, length_push}
 use Rattle.cost_base.specs.Lists.{Has, Lacks, NoneTwice}
 use Rattle.cost_base.proofs.ListLemmas.{each_mapped}
+use Rattle.cost_base.specs.Marks.{is_marked}
+use Rattle.cost_base.proofs.MarkLaws.{one_of_has}
 use Rattle.design_problem.proofs.PathBounds.{none_twice-le}
 use Rattle.change_steps.specs.declared.kinds.Kind.{Kind}
 use Rattle.change_steps.specs.declared.kinds.Kind.TheVariants.{First, Between, Last}
 use Rattle.change_steps.specs.Rollouts.{Rollout, step_count}
 use Rattle.change_steps.specs.Kinds.{comes_between, comes_first, kind_of_step, steps_between}
-use Rattle.change_steps.specs.States.{AreTested, IsAnotherReached, IsReached, first_state, is_done_in}
-use Rattle.change_steps.proofs.StateCosts.{one_of_has}
+use Rattle.change_steps.specs.States.{AreTested, IsAnotherReached, IsReached, first_state}
 use Rattle.change_steps.proofs.MarkLaws.{length-marks_of, marks_at}
 use Rattle.change_steps.proofs.OrderLaws.{passes_that}
 
@@ -20,7 +21,7 @@ one done = cond done 1 0
 
 code : List ℕ → List Bool → ℕ
 code [] marks = 0
-code (k ∷ ks) marks = one (is_done_in marks k) + 2 * code ks marks
+code (k ∷ ks) marks = one (is_marked marks k) + 2 * code ks marks
 
 code-lt : (ks : List ℕ) (marks : List Bool) → code ks marks < 2 ^ length ks
 unfolding code
@@ -28,7 +29,7 @@ code-lt [] marks = omega arith
 code-lt (k ∷ ks) marks =
     let rest = code-lt ks marks in
     let twice : 2 ^ suc (length ks) ≡ 2 * 2 ^ length ks = omega arith in
-    let small = one_le (is_done_in marks k) in
+    let small = one_le (is_marked marks k) in
     omega (arith, rest, twice, small)
   where
     one_le : (b : Bool) → one b ≤ 1
@@ -41,21 +42,21 @@ halves true false m n same = absurd (omega (arith, same))
 halves false true m n same = absurd (omega (arith, same))
 halves false false m n same = (refl, omega (arith, same))
 
-code_same : (ks : List ℕ) (a b : List Bool) → code ks a ≡ code ks b → (k : ℕ) → Has ks k → is_done_in a k ≡ is_done_in b k
+code_same : (ks : List ℕ) (a b : List Bool) → code ks a ≡ code ks b → (k : ℕ) → Has ks k → is_marked a k ≡ is_marked b k
 unfolding code
 code_same [] a b same k has = absurd has
 code_same (x ∷ ks) a b same k has =
-    let parts = halves (is_done_in a x) (is_done_in b x) (code ks a) (code ks b) same in
+    let parts = halves (is_marked a x) (is_marked b x) (code ks a) (code ks b) same in
     elim has [
-      | inl here ↦ ap (is_done_in a) here ∙ parts.0 ∙ ap (is_done_in b) (sym here)
+      | inl here ↦ ap (is_marked a) here ∙ parts.0 ∙ ap (is_marked b) (sym here)
       | inr later ↦ code_same ks a b parts.1 k later
     ]
 
 -- a state with all first steps and no last one
 record HasForm (r : Rollout) (held : List ℕ) (marks : List Bool) : Type 0 where
   count : length marks ≡ step_count r
-  first : (k : ℕ) → k < step_count r → kind_of_step r held k ≡ First → is_done_in marks k ≡ true
-  last : (k : ℕ) → k < step_count r → kind_of_step r held k ≡ Last → is_done_in marks k ≡ false
+  first : (k : ℕ) → k < step_count r → kind_of_step r held k ≡ First → is_marked marks k ≡ true
+  last : (k : ℕ) → k < step_count r → kind_of_step r held k ≡ Last → is_marked marks k ≡ false
 
 begin_form : (r : Rollout) (held : List ℕ) → HasForm r held (first_state r held)
 begin_form r held = record {
@@ -108,7 +109,7 @@ form_same : (r : Rollout) (held : List ℕ) (a b : List Bool) → HasForm r held
 form_same r held a b first second same = ext_get_or false a b (first.count ∙ sym second.count) (λ k within.
     let known : k < step_count r = let count = first.count in omega (arith, count, within) in by_kind k known (kind_of_step r held k) refl)
   where
-    by_kind : (k : ℕ) → k < step_count r → (kind : Kind) → kind_of_step r held k ≡ kind → is_done_in a k ≡ is_done_in b k
+    by_kind : (k : ℕ) → k < step_count r → (kind : Kind) → kind_of_step r held k ≡ kind → is_marked a k ≡ is_marked b k
     by_kind k known First is = first.first k known is ∙ sym (second.first k known is)
     by_kind k known Last is = first.last k known is ∙ sym (second.last k known is)
     by_kind k known Between is =
@@ -172,7 +173,8 @@ budget_short r held tested nodes are used_up another =
         get_or (tested ++ another.marks ∷ []) i [] ≢ get_or (tested ++ another.marks ∷ []) j []
     differ i j less within = elim (split j within) [
       | inl before ↦
-          λ same. are.once i j less before.0 (sym (get_or_append_left tested (another.marks ∷ []) [] i (let near = before.0 in omega (arith, less, near))) ∙ same ∙ before.1)
+          λ same. are.once i j less before.0 (sym (get_or_append_left tested (another.marks ∷ []) [] i (let near = before.0 in omega (arith, less, near))) ∙
+          same ∙ before.1)
       | inr last ↦
           let earlier : i < length tested = let at = last.0 in omega (arith, less, at) in
           λ same. another.new (

@@ -1,12 +1,13 @@
 -- The held paths of the first requests.
-use Rattle.std.proofs.Common.{◌≡◌, ℕ, ◌+◌, ◌<◌, sym, ◌∙◌, List, [], ◌∷◌, ◌++◌, All, Bool, false, true, ap, length, inl, inr, arith, subst}
+use Rattle.std.proofs.Common.{◌≡◌, ℕ, ◌+◌, ◌<◌, sym, ◌∙◌, List, [], ◌∷◌, ◌++◌, All, Bool, cond, false, true, refl, ap, length, inl, inr, arith, subst}
 use Rattle.std.specs.Prelude.{Contains}
 use Rattle.std.specs.List.Sorted.{IsStrictlyIncreasing}
 use Rattle.std.proofs.lemmas.Bool.{both_ways, cases_lt}
 use Rattle.std.proofs.lemmas.List.{get_or_append_left, get_or_at, length_push}
 use Rattle.std.proofs.lemmas.List.Elements.{All-nil, All-push, All-weaker, Contains-append_left, Contains-push}
+use Rattle.cost_base.specs.Marks.{is_marked}
 use Rattle.change_steps.specs.Rollouts.{Rollout}
-use Rattle.change_steps.specs.States.{is_done_in, marks_of}
+use Rattle.change_steps.specs.States.{marks_of}
 use Rattle.change_steps.proofs.StateCosts.{only_agree}
 use Rattle.change_steps.proofs.MarkLaws.{marks_at}
 use Rattle.change_steps.specs.Orders.{AreHeld, IsOnlyIn, all_done, none_done}
@@ -30,7 +31,7 @@ held_none r held none = subst (AreHeldBelow r 0) (sym none) (record {
 })
 
 -- the first ones are all
-pub held_all : (r : Rollout) (held : List ℕ) (n : ℕ) → n ≡ length r.paths → AreHeldBelow r n held → AreHeld r held
+pub held_all : (r : Rollout) (held : List ℕ) (n : ℕ) → n ≡ length r.requests → AreHeldBelow r n held → AreHeld r held
 held_all r held n all are = record {
   rising = are.rising;
   known = subst (λ (m : ℕ). All (λ k. k < m) held) all are.known;
@@ -85,26 +86,25 @@ held_less r n held are lost = record {
 }
 
 -- a path in a state and by its marks
-pub only_from_marks : (r : Rollout) (f : ℕ → Bool) (marks : List Bool) (k : ℕ) → marks ≡ marks_of r f → IsOnlyIn r (is_done_in marks) k → IsOnlyIn r f k
+pub only_from_marks : (r : Rollout) (f : ℕ → Bool) (marks : List Bool) (k : ℕ) → marks ≡ marks_of r f → IsOnlyIn r (is_marked marks) k → IsOnlyIn r f k
 only_from_marks r f marks k same only =
-    only_agree r (is_done_in marks) f k (λ i within. ap (λ (ms : List Bool). is_done_in ms i) same ∙ marks_at r f i within) only
+    only_agree r (is_marked marks) f k (λ i within. ap (λ (ms : List Bool). is_marked ms i) same ∙ marks_at r f i within) only
 
-pub only_to_marks : (r : Rollout) (f : ℕ → Bool) (marks : List Bool) (k : ℕ) → marks ≡ marks_of r f → IsOnlyIn r f k → IsOnlyIn r (is_done_in marks) k
+pub only_to_marks : (r : Rollout) (f : ℕ → Bool) (marks : List Bool) (k : ℕ) → marks ≡ marks_of r f → IsOnlyIn r f k → IsOnlyIn r (is_marked marks) k
 only_to_marks r f marks k same only =
-    only_agree r f (is_done_in marks) k (λ i within. sym (ap (λ (ms : List Bool). is_done_in ms i) same ∙ marks_at r f i within)) only
+    only_agree r f (is_marked marks) k (λ i within. sym (ap (λ (ms : List Bool). is_marked ms i) same ∙ marks_at r f i within)) only
 
--- one more by the marks of both states
-pub held_both : (r : Rollout) (n : ℕ) (held new : List ℕ) (present wanted : List Bool) → AreHeldBelow r n held → present ≡ marks_of r none_done →
-    wanted ≡ marks_of r all_done → IsOnlyIn r (is_done_in present) n × IsOnlyIn r (is_done_in wanted) n → new ≡ held ++ n ∷ [] → AreHeldBelow r (n + 1) new
-held_both r n held new present wanted are none all both is =
+-- one more, put behind those that are held, where it is by the marks of both states
+pub held_if : (r : Rollout) (n : ℕ) (held new : List ℕ) (present wanted : List Bool) (both : Bool) → AreHeldBelow r n held →
+    present ≡ marks_of r none_done → wanted ≡ marks_of r all_done →
+    (both ≡ true → IsOnlyIn r (is_marked present) n × IsOnlyIn r (is_marked wanted) n) →
+    (IsOnlyIn r (is_marked present) n × IsOnlyIn r (is_marked wanted) n → both ≡ true) → new ≡ cond both (held ++ n ∷ []) held →
+    AreHeldBelow r (n + 1) new
+held_if r n held new present wanted true are none all tells told is =
+    let only = tells refl in
     subst (λ (xs : List ℕ). AreHeldBelow r (n + 1) xs) (sym is)
-    (held_more r n held are (only_from_marks r none_done present n none both.0) (only_from_marks r all_done wanted n all both.1))
-
--- one more that isn't by them
-pub held_not_both : (r : Rollout) (n : ℕ) (held new : List ℕ) (present wanted : List Bool) (both : Bool) → AreHeldBelow r n held →
-    present ≡ marks_of r none_done → wanted ≡ marks_of r all_done → both ≡ false →
-    (IsOnlyIn r (is_done_in present) n × IsOnlyIn r (is_done_in wanted) n → both ≡ true) → new ≡ held → AreHeldBelow r (n + 1) new
-held_not_both r n held new present wanted both are none all not told is =
+    (held_more r n held are (only_from_marks r none_done present n none only.0) (only_from_marks r all_done wanted n all only.1))
+held_if r n held new present wanted false are none all tells told is =
     subst (λ (xs : List ℕ). AreHeldBelow r (n + 1) xs) (sym is)
-    (held_less r n held are (λ first second. both_ways both not
+    (held_less r n held are (λ first second. both_ways false refl
     (told (only_to_marks r none_done present n none first, only_to_marks r all_done wanted n all second))))

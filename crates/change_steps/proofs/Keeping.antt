@@ -1,31 +1,15 @@
 -- A path keeps being the only cheapest where no edge on it gets dearer and none lies on a rival that gets too cheap.
-use Rattle.std.proofs.Common.{◌≡◌, ◌≢◌, ℕ, ◌+◌, ◌-◌, ◌<◌, ◌≤◌, refl, sym, ◌∙◌, ap, subst, List, [], ◌∷◌, map, length, inl, inr, ◌⊎◌, arith, All}
+use Rattle.std.proofs.Common.{◌≡◌, ◌≢◌, ℕ, ◌+◌, ◌-◌, ◌<◌, ◌≤◌, refl, sym, ◌∙◌, ap, subst, List, [], ◌∷◌, map, length, inl, inr, ◌⊎◌, arith}
 use Rattle.std.specs.Prelude.{sum_by}
-use Rattle.std.proofs.lemmas.Bool.{cases_eq, cases_lt}
+use Rattle.std.proofs.lemmas.Bool.{cases_lt}
 use Rattle.std.proofs.lemmas.List.Sums.{sum_by-cons}
-use Rattle.std.proofs.lemmas.List.Elements.{All-head, All-tail}
 use Rattle.cost_base.specs.Lists.{Has, Lacks, NoneTwice}
+use Rattle.cost_base.proofs.ListLemmas.{has_lacks, has_or_not, all_has}
 use Rattle.area_graph.specs.declared.Point.{Point}
 use Rattle.area_graph.specs.Area.{Area, edge_at}
 use Rattle.area_graph.specs.Paths.{Ends, IsPathOf}
 use Rattle.area_graph.specs.Costs.{IsOnlyCheapest, cost, price_at}
 use Rattle.area_graph.proofs.Visits.{joined_known}
-
--- a number is one of a list or none of it
-pub has_or_not : (xs : List ℕ) (x : ℕ) → Has xs x ⊎ (Has xs x → ⊥)
-has_or_not [] x = inr (λ has. has)
-has_or_not (y ∷ ys) x = elim (cases_eq x y) [
-  | inl same ↦ inl (inl same)
-  | inr other ↦ elim (has_or_not ys x) [
-    | inl has ↦ inl (inr has)
-    | inr lacks ↦ inr (λ has. elim has [ inl same ↦ other same | inr later ↦ lacks later ])
-  ]
-]
-
--- what a list has, it doesn't lack
-pub has_lacks : (xs : List ℕ) (x : ℕ) → Has xs x → Lacks xs x → ⊥
-has_lacks [] x has lacks = has
-has_lacks (y ∷ ys) x has lacks = elim has [ inl same ↦ lacks.0 same | inr later ↦ has_lacks ys x later lacks.1 ]
 
 -- a list lacks what it doesn't have
 pub lacks_unless : (xs : List ℕ) (x : ℕ) → (Has xs x → ⊥) → Lacks xs x
@@ -120,14 +104,6 @@ falls_all g p q (e ∷ es) cheaper =
     let here = cheaper e (inl refl) in
     omega (arith, old, new, fall, rest, here)
 
--- edges of a walk are edges of the graph
-pub known_if : (P : ℕ → Type 0) (xs : List ℕ) (x : ℕ) → All P xs → Has xs x → P x
-known_if P [] x all has = absurd has
-known_if P (y ∷ ys) x all has = elim has [
-  | inl same ↦ subst P (sym same) (All-head P y ys all)
-  | inr later ↦ known_if P ys x (All-tail P y ys all) later
-]
-
 -- a walk whose edges' prices don't fall gets no cheaper
 pub pays_more : (g : Area) (p q : Point) (es : List ℕ) → ((e : ℕ) → paid g p e ≤ paid g q e) → cost g p es ≤ cost g q es
 pays_more g p q [] more = omega arith
@@ -156,8 +132,8 @@ falls_or_not g p q es (x ∷ xs) = elim (falls_or_not g p q es xs) [
   ]
 ]
 
--- The only cheapest path stays so where no edge on it gets dearer, and each other edge gets no cheaper or lies on dearer
--- paths alone.
+-- The only cheapest path stays so where no edge on it gets dearer, and each other edge gets no cheaper or lies on
+-- dearer paths alone.
 pub only_unless : (g : Area) (p q : Point) (ends : Ends) (es : List ℕ) → IsOnlyCheapest g p ends es →
     ((e : ℕ) → Has es e → paid g q e ≤ paid g p e) →
     ((e : ℕ) → e < length g.edges → (Has es e → ⊥) →
@@ -167,7 +143,7 @@ only_unless g p q ends es only on off = record {
   others = λ other path differs.
       let known = joined_known g ends.start other ends.end path.simple.joins in
       elim (falls_or_not g p q es other) [
-        | inr found ↦ elim (off found.0 (known_if (λ i. i < length g.edges) other found.0 known found.1) found.2) [
+        | inr found ↦ elim (off found.0 (all_has (λ i. i < length g.edges) other found.0 known found.1) found.2) [
           | inl dearer ↦ let cheaper = found.3 in absurd (omega (arith, dearer, cheaper))
           | inr over ↦ over other path found.1
         ]

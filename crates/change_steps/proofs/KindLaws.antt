@@ -8,7 +8,7 @@ use Rattle.cost_base.specs.Lists.{Has}
 use Rattle.cost_base.proofs.ListLemmas.{same_test}
 use Rattle.design_problem.specs.Problems.{request_at}
 use Rattle.change_steps.specs.declared.kinds.Kind.TheVariants.{First, Between, Last}
-use Rattle.change_steps.specs.Rollouts.{CostMoves, IsRollout, Rollout, lines_of_step, step_count}
+use Rattle.change_steps.specs.Rollouts.{CostMoves, IsRollout, Rollout, variables_of_step, step_count}
 use Rattle.change_steps.specs.Orders.{IsSafe, cost_in, is_changed}
 use Rattle.change_steps.specs.Kinds.{falls_off_held, goes_over, kind_of_step, lies_on_held, rises, rises_off_held}
 use Rattle.change_steps.specs.Search.{HasMore}
@@ -21,10 +21,10 @@ list_all_has test (y ∷ ys) x all has =
     elim has [ inl same ↦ ap test same ∙ parts.0 | inr later ↦ list_all_has test ys x parts.1 later ]
 
 -- a variable on a held path
-on_held : (r : Rollout) (held : List ℕ) (v i d : ℕ) → i < length held → goes_over r.graph (request_at r.paths (get_or held i d)).path.edges v ≡ true →
+on_held : (r : Rollout) (held : List ℕ) (v i d : ℕ) → i < length held → goes_over r.graph (request_at r.requests (get_or held i d)).path.edges v ≡ true →
     lies_on_held r held v ≡ true
 unfolding lies_on_held
-on_held r held v i d within goes = list_any_at (λ k. goes_over r.graph (request_at r.paths k).path.edges v) held i d within goes
+on_held r held v i d within goes = list_any_at (λ k. goes_over r.graph (request_at r.requests k).path.edges v) held i d within goes
 
 first_test : (a b : Bool) → (if a then First else (if b then Last else Between)) ≡ First → a ≡ true
 first_test true b is = refl
@@ -36,22 +36,23 @@ last_test true b is = cc
 last_test false true is = refl
 last_test false false is = cc
 
--- the lines of a first step rise off the held paths
-pub first_lines : (r : Rollout) (held : List ℕ) (k v : ℕ) → kind_of_step r held k ≡ First → Has (lines_of_step r.moves k) v →
+-- the variables of a first step rise off the held paths
+pub first_variables : (r : Rollout) (held : List ℕ) (k v : ℕ) → kind_of_step r held k ≡ First → Has (variables_of_step r.moves k) v →
     (rises r.moves v ≡ true) × (lies_on_held r held v ≡ false)
 unfolding kind_of_step
-first_lines r held k v is has =
-    let all = first_test (list_all (rises_off_held r held) (lines_of_step r.moves k)) (list_all (falls_off_held r held) (lines_of_step r.moves k)) is in
-    let parts = and_parts (rises r.moves v) (not (lies_on_held r held v)) (list_all_has (rises_off_held r held) (lines_of_step r.moves k) v all has) in
+first_variables r held k v is has =
+    let all = first_test (list_all (rises_off_held r held) (variables_of_step r.moves k)) (list_all (falls_off_held r held) (variables_of_step r.moves k)) is in
+    let parts = and_parts (rises r.moves v) (not (lies_on_held r held v)) (list_all_has (rises_off_held r held) (variables_of_step r.moves k) v all has) in
     (parts.0, not-true (lies_on_held r held v) parts.1)
 
 -- those of a last one fall off them
-pub last_lines : (r : Rollout) (held : List ℕ) (k v : ℕ) → kind_of_step r held k ≡ Last → Has (lines_of_step r.moves k) v →
+pub last_variables : (r : Rollout) (held : List ℕ) (k v : ℕ) → kind_of_step r held k ≡ Last → Has (variables_of_step r.moves k) v →
     (rises r.moves v ≡ false) × (lies_on_held r held v ≡ false)
 unfolding kind_of_step
-last_lines r held k v is has =
-    let all = last_test (list_all (rises_off_held r held) (lines_of_step r.moves k)) (list_all (falls_off_held r held) (lines_of_step r.moves k)) is in
-    let parts = and_parts (not (rises r.moves v)) (not (lies_on_held r held v)) (list_all_has (falls_off_held r held) (lines_of_step r.moves k) v all has) in
+last_variables r held k v is has =
+    let all = last_test (list_all (rises_off_held r held) (variables_of_step r.moves k)) (list_all (falls_off_held r held) (variables_of_step r.moves k)) is in
+    let parts = and_parts (not (rises r.moves v)) (not (lies_on_held r held v)) (list_all_has (falls_off_held r held) (variables_of_step r.moves k) v all has)
+    in
     (not-true (rises r.moves v) parts.0, not-true (lies_on_held r held v) parts.1)
 
 -- the kind by both tests
@@ -69,21 +70,22 @@ kind_by_none true b is other = absurd (false≢true (sym is))
 kind_by_none false true is other = absurd (false≢true (sym other))
 kind_by_none false false is other = refl
 
-pub first_kind : (r : Rollout) (held : List ℕ) (k : ℕ) → list_all (rises_off_held r held) (lines_of_step r.moves k) ≡ true → First ≡ kind_of_step r held k
+pub first_kind : (r : Rollout) (held : List ℕ) (k : ℕ) → list_all (rises_off_held r held) (variables_of_step r.moves k) ≡ true → First ≡ kind_of_step r held k
 unfolding kind_of_step
-first_kind r held k is = kind_by (list_all (rises_off_held r held) (lines_of_step r.moves k)) (list_all (falls_off_held r held) (lines_of_step r.moves k)) is
+first_kind r held k is = kind_by (list_all (rises_off_held r held) (variables_of_step r.moves k))
+    (list_all (falls_off_held r held) (variables_of_step r.moves k)) is
 
-pub last_kind : (r : Rollout) (held : List ℕ) (k : ℕ) → list_all (rises_off_held r held) (lines_of_step r.moves k) ≡ false →
-    list_all (falls_off_held r held) (lines_of_step r.moves k) ≡ true → Last ≡ kind_of_step r held k
+pub last_kind : (r : Rollout) (held : List ℕ) (k : ℕ) → list_all (rises_off_held r held) (variables_of_step r.moves k) ≡ false →
+    list_all (falls_off_held r held) (variables_of_step r.moves k) ≡ true → Last ≡ kind_of_step r held k
 unfolding kind_of_step
 last_kind r held k is other =
-    kind_by_second (list_all (rises_off_held r held) (lines_of_step r.moves k)) (list_all (falls_off_held r held) (lines_of_step r.moves k)) is other
+    kind_by_second (list_all (rises_off_held r held) (variables_of_step r.moves k)) (list_all (falls_off_held r held) (variables_of_step r.moves k)) is other
 
-pub between_kind : (r : Rollout) (held : List ℕ) (k : ℕ) → list_all (rises_off_held r held) (lines_of_step r.moves k) ≡ false →
-    list_all (falls_off_held r held) (lines_of_step r.moves k) ≡ false → Between ≡ kind_of_step r held k
+pub between_kind : (r : Rollout) (held : List ℕ) (k : ℕ) → list_all (rises_off_held r held) (variables_of_step r.moves k) ≡ false →
+    list_all (falls_off_held r held) (variables_of_step r.moves k) ≡ false → Between ≡ kind_of_step r held k
 unfolding kind_of_step
 between_kind r held k is other =
-    kind_by_none (list_all (rises_off_held r held) (lines_of_step r.moves k)) (list_all (falls_off_held r held) (lines_of_step r.moves k)) is other
+    kind_by_none (list_all (rises_off_held r held) (variables_of_step r.moves k)) (list_all (falls_off_held r held) (variables_of_step r.moves k)) is other
 
 -- from one state to another first steps are done and last ones undone, and else both are the same
 abbrev pub IsEased : Rollout → List ℕ → (ℕ → Bool) → (ℕ → Bool) → Type 0
@@ -123,7 +125,7 @@ eased_costs r held f g v eased = between_costs r.moves f g v
       | inl same ↦ absurd (both_ways (is_changed r.moves g v) g_not (changed_if r.moves g v by.0 by.1 (sym same ∙ by.2) by.3))
       | inr differ ↦ elim differ [
         | inl first ↦ absurd (both_ways (f by.0) first.0 by.2)
-        | inr last ↦ (last_lines r held by.0 v last.2 by.3).0
+        | inr last ↦ (last_variables r held by.0 v last.2 by.3).0
       ]
     ])
     (λ f_not g_is.
@@ -131,7 +133,7 @@ eased_costs r held f g v eased = between_costs r.moves f g v
     elim (eased by.0 by.1) [
       | inl same ↦ absurd (both_ways (is_changed r.moves f v) f_not (changed_if r.moves f v by.0 by.1 (same ∙ by.2) by.3))
       | inr differ ↦ elim differ [
-        | inl first ↦ (first_lines r held by.0 v first.2 by.3).0
+        | inl first ↦ (first_variables r held by.0 v first.2 by.3).0
         | inr last ↦ absurd (both_ways (g by.0) last.1 by.2)
       ]
     ])
@@ -144,7 +146,7 @@ eased_on r held f g v eased on = between_costs r.moves g f v
     (changes_more r.moves g f v (λ k within is has. elim (eased k within) [
       | inl same ↦ same ∙ is
       | inr differ ↦ elim differ [
-        | inl first ↦ absurd (both_ways (lies_on_held r held v) (first_lines r held k v first.2 has).1 on)
+        | inl first ↦ absurd (both_ways (lies_on_held r held v) (first_variables r held k v first.2 has).1 on)
         | inr last ↦ last.0
       ]
     ]) g_is)))
@@ -153,7 +155,7 @@ eased_on r held f g v eased on = between_costs r.moves g f v
       | inl same ↦ sym same ∙ is
       | inr differ ↦ elim differ [
         | inl first ↦ first.1
-        | inr last ↦ absurd (both_ways (lies_on_held r held v) (last_lines r held k v last.2 has).1 on)
+        | inr last ↦ absurd (both_ways (lies_on_held r held v) (last_variables r held k v last.2 has).1 on)
       ]
     ]) f_is)))
 
@@ -167,8 +169,8 @@ eased_safe r held f g is eased safe = λ i d within.
 -- One step more.
 
 -- what one step more doesn't have stays as it was
-pub same_change : (r : Rollout) (f g : ℕ → Bool) (step v : ℕ) → HasMore r f g step → (Has (lines_of_step r.moves step) v → ⊥) →
+pub same_change : (r : Rollout) (f g : ℕ → Bool) (step v : ℕ) → HasMore r f g step → (Has (variables_of_step r.moves step) v → ⊥) →
     is_changed r.moves f v ≡ is_changed r.moves g v
 same_change r f g step v more away = same_test (is_changed r.moves f v) (is_changed r.moves g v)
-    (changes_more r.moves f g v (λ k within is has. sym (more.others k (λ same. away (subst (λ (i : ℕ). Has (lines_of_step r.moves i) v) same has))) ∙ is))
-    (changes_more r.moves g f v (λ k within is has. more.others k (λ same. away (subst (λ (i : ℕ). Has (lines_of_step r.moves i) v) same has)) ∙ is))
+    (changes_more r.moves f g v (λ k within is has. sym (more.others k (λ same. away (subst (λ (i : ℕ). Has (variables_of_step r.moves i) v) same has))) ∙ is))
+    (changes_more r.moves g f v (λ k within is has. more.others k (λ same. away (subst (λ (i : ℕ). Has (variables_of_step r.moves i) v) same has)) ∙ is))

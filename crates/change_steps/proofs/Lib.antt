@@ -11,7 +11,7 @@ pub mod HeldLaws
 pub mod StateLaws
 pub mod ReachLaws
 pub mod MarkedLaws
-pub mod PlanLaws
+pub mod HeldRolloutLaws
 pub mod TestedLaws
 pub mod WalkLaws
 pub mod EndLaws

@@ -8,23 +8,24 @@ use Rattle.std.proofs.lemmas.List.Elements.{All-head, All-tail}
 use Rattle.std.proofs.lemmas.List.Folds.{list_any-append}
 use Rattle.std.proofs.lemmas.List.Sums.{sum_by-set}
 use Rattle.cost_base.specs.Lists.{NoneTwice, numbers_from}
-use Rattle.cost_base.proofs.ListLemmas.{get_or-map-numbers_from, length-map-numbers_from}
+use Rattle.cost_base.proofs.ListLemmas.{get_or-map-numbers_from, length-map-numbers_from, has_lacks}
+use Rattle.cost_base.specs.Marks.{is_marked, is_one_of}
+use Rattle.cost_base.proofs.MarkLaws.{one_of_has}
 use Rattle.change_steps.specs.Rollouts.{Rollout, step_count}
-use Rattle.change_steps.specs.Orders.{IsSafe, is_one_of}
-use Rattle.change_steps.specs.States.{is_done_in, marks_of}
+use Rattle.change_steps.specs.Orders.{IsSafe}
+use Rattle.change_steps.specs.States.{marks_of}
 use Rattle.change_steps.specs.Outcomes.{done_count}
-use Rattle.change_steps.proofs.Keeping.{has_lacks}
-use Rattle.change_steps.proofs.StateCosts.{one_of_has, safe_agree}
+use Rattle.change_steps.proofs.StateCosts.{safe_agree}
 
 pub length-marks_of : (r : Rollout) (f : ℕ → Bool) → length (marks_of r f) ≡ step_count r
 length-marks_of r f = length-map-numbers_from f 0 (step_count r)
 
-pub marks_at : (r : Rollout) (f : ℕ → Bool) (k : ℕ) → k < step_count r → is_done_in (marks_of r f) k ≡ f k
+pub marks_at : (r : Rollout) (f : ℕ → Bool) (k : ℕ) → k < step_count r → is_marked (marks_of r f) k ≡ f k
 marks_at r f k within = get_or-map-numbers_from f 0 (step_count r) k false within ∙ ap f (zero-add k)
 
 -- marks that say what a state says are its marks
 pub marks_same : (r : Rollout) (f : ℕ → Bool) (marks : List Bool) → length marks ≡ step_count r →
-    ((k : ℕ) → k < step_count r → is_done_in marks k ≡ f k) → marks ≡ marks_of r f
+    ((k : ℕ) → k < step_count r → is_marked marks k ≡ f k) → marks ≡ marks_of r f
 marks_same r f marks count same = ext_get_or false marks (marks_of r f) (count ∙ sym (length-marks_of r f))
     (λ k k_in. let within : k < step_count r = omega (arith, count, k_in) in same k within ∙ sym (marks_at r f k within))
 
@@ -33,13 +34,13 @@ pub marks_agree : (r : Rollout) (f g : ℕ → Bool) → ((k : ℕ) → k < step
 marks_agree r f g agree = marks_same r g (marks_of r f) (length-marks_of r f) (λ k within. marks_at r f k within ∙ agree k within)
 
 -- a state is as safe as its marks
-pub marks_safe : (r : Rollout) (held : List ℕ) (f : ℕ → Bool) (marks : List Bool) → marks ≡ marks_of r f → IsSafe r held f → IsSafe r held (is_done_in marks)
-marks_safe r held f marks same safe = safe_agree r held f (is_done_in marks)
-    (λ k within. sym (ap (λ (ms : List Bool). is_done_in ms k) same ∙ marks_at r f k within)) safe
+pub marks_safe : (r : Rollout) (held : List ℕ) (f : ℕ → Bool) (marks : List Bool) → marks ≡ marks_of r f → IsSafe r held f → IsSafe r held (is_marked marks)
+marks_safe r held f marks same safe = safe_agree r held f (is_marked marks)
+    (λ k within. sym (ap (λ (ms : List Bool). is_marked ms k) same ∙ marks_at r f k within)) safe
 
-pub safe_marks : (r : Rollout) (held : List ℕ) (f : ℕ → Bool) (marks : List Bool) → marks ≡ marks_of r f → IsSafe r held (is_done_in marks) → IsSafe r held f
-safe_marks r held f marks same safe = safe_agree r held (is_done_in marks) f
-    (λ k within. ap (λ (ms : List Bool). is_done_in ms k) same ∙ marks_at r f k within) safe
+pub safe_marks : (r : Rollout) (held : List ℕ) (f : ℕ → Bool) (marks : List Bool) → marks ≡ marks_of r f → IsSafe r held (is_marked marks) → IsSafe r held f
+safe_marks r held f marks same safe = safe_agree r held (is_marked marks) f
+    (λ k within. ap (λ (ms : List Bool). is_marked ms k) same ∙ marks_at r f k within) safe
 
 -- a list with one more
 
@@ -93,7 +94,7 @@ done_count_of r (x ∷ xs) known once =
     (λ k other. ap (λ (b : Bool). b || is_one_of xs k) (ne_eqb x k (λ same. other (sym same)))) in
     let counted = sum_by-set one (marks_of r (is_one_of xs)) x true false
     (let count = length-marks_of r (is_one_of xs) in omega (arith, count, here)) in
-    let was : is_done_in (marks_of r (is_one_of xs)) x ≡ false = marks_at r (is_one_of xs) x here ∙ new in
-    let nothing : one (is_done_in (marks_of r (is_one_of xs)) x) ≡ 0 = ap one was in
+    let was : is_marked (marks_of r (is_one_of xs)) x ≡ false = marks_at r (is_one_of xs) x here ∙ new in
+    let nothing : one (is_marked (marks_of r (is_one_of xs)) x) ≡ 0 = ap one was in
     let same : done_count (set (marks_of r (is_one_of xs)) x true) ≡ done_count (marks_of r (is_one_of (x ∷ xs))) = ap done_count more in
     omega (arith, rest, counted, nothing, same)

@@ -1,11 +1,13 @@
 -- Variables on paths, item by item, and edges that have variables of their own.
-use Rattle.std.proofs.Common.{◌≡◌, ℕ, ◌+◌, ◌<◌, ◌≤◌, refl, sym, ◌∙◌, ap, subst, List, [], ◌++◌, All, length, get_or, take, drop, inl, inr, arith, Bool, true, false, ◌||◌, ◌&&◌, take_all}
-use Rattle.std.specs.Prelude.{not}
+use Rattle.std.proofs.Common.{◌≡◌, ℕ, ◌+◌, ◌<◌, ◌≤◌, refl, sym, ◌∙◌, ap, subst, List, [], ◌++◌, All, length, get_or, set, take, drop, inl, inr, arith, Bool, true, false, ◌||◌, ◌&&◌, take_all}
+use Rattle.std.specs.Prelude.{not, ◌==◌}
 use Rattle.std.proofs.Math.Bool.{or_assoc}
-use Rattle.std.proofs.lemmas.Bool.{and_from, and_parts, both_ways, cases_lt, not_from_false, not-true, false≢true}
+use Rattle.std.proofs.lemmas.Bool.{and_from, and_parts, both_ways, cases_lt, not_from_false, not-true, false≢true, and_right}
 use Rattle.std.proofs.lemmas.List.{drop_more, take-append-drop}
 use Rattle.std.proofs.lemmas.List.Folds.{list_all_at, list_all_more, list_any_at, list_any_more}
 use Rattle.std.specs.List.{list_all}
+use Rattle.cost_base.specs.Marks.{is_marked}
+use Rattle.cost_base.proofs.MarkLaws.{written_mark}
 use Rattle.area_graph.specs.Area.{Area, edge_at}
 use Rattle.area_graph.specs.Paths.{IsPathOf}
 use Rattle.area_graph.proofs.Visits.{joined_known}
@@ -16,9 +18,14 @@ use Rattle.change_steps.specs.declared.kinds.Kind.TheVariants.{First, Between, L
 use Rattle.change_steps.specs.Rollouts.{IsRollout, Rollout, step_count}
 use Rattle.change_steps.specs.Orders.{IsOnlyIn}
 use Rattle.change_steps.specs.Kinds.{comes_between, falls_off_held, goes_over, kind_of_step, lies_on_held, rises, rises_off_held}
-use Rattle.change_steps.specs.States.{MayFollow, is_done_in}
+use Rattle.change_steps.specs.States.{MayFollow}
 use Rattle.change_steps.specs.Outcomes.{IsFirstLost}
 use Rattle.change_steps.specs.Search.{AreHeldMarks}
+
+-- marks behind a write, where there is one of the number
+pub mark_written : (old new : List Bool) (place v : ℕ) → new ≡ set old place true → v < length old → is_marked new v ≡ (is_marked old v || (place == v))
+mark_written old new place v put within =
+    ap (λ (ms : List Bool). is_marked ms v) put ∙ written_mark old place v (λ same. subst (λ (k : ℕ). k < length old) same within)
 
 -- Paths.
 
@@ -47,14 +54,15 @@ path_more g es i v was here now within so_far more =
     ∙ ap (λ (b : Bool). was || b) (sym (goes_more g es i v within))
 
 -- the edges of a path of a request are edges of the graph
-pub path_known : (r : Rollout) (k : ℕ) → IsRollout r → k < length r.paths → All (λ e. e < length r.graph.edges) (request_at r.paths k).path.edges
+pub path_known : (r : Rollout) (k : ℕ) → IsRollout r → k < length r.requests → All (λ e. e < length r.graph.edges) (request_at r.requests k).path.edges
 path_known r k is within =
-    let path : IsPathOf r.graph (request_ends (request_at r.paths k)) (request_at r.paths k).path.edges = is.paths k no_request within in
-    joined_known r.graph (request_at r.paths k).path.start (request_at r.paths k).path.edges (request_at r.paths k).end path.simple.joins
+    let path : IsPathOf r.graph (request_ends (request_at r.requests k)) (request_at r.requests k).path.edges = is.requests k no_request within in
+    joined_known r.graph (request_at r.requests k).path.start (request_at r.requests k).path.edges (request_at r.requests k).end path.simple.joins
 
 -- Held paths.
 
-pub held_none_marked : (r : Rollout) (marks : List Bool) → length marks ≡ length r.moves.present → ((v : ℕ) → get_or marks v false ≡ false) → AreHeldMarks r [] marks
+pub held_none_marked : (r : Rollout) (marks : List Bool) → length marks ≡ length r.moves.present → ((v : ℕ) → get_or marks v false ≡ false) →
+    AreHeldMarks r [] marks
 unfolding lies_on_held
 held_none_marked r marks count none = record { count = count; told = λ v within. none v ∙ nothing v }
   where
@@ -62,12 +70,12 @@ held_none_marked r marks count none = record { count = count; told = λ v within
     nothing v = refl
 
 lies_more : (r : Rollout) (held : List ℕ) (i v : ℕ) → i < length held →
-    lies_on_held r (take (i + 1) held) v ≡ (lies_on_held r (take i held) v || goes_over r.graph (request_at r.paths (get_or held i 0)).path.edges v)
+    lies_on_held r (take (i + 1) held) v ≡ (lies_on_held r (take i held) v || goes_over r.graph (request_at r.requests (get_or held i 0)).path.edges v)
 unfolding lies_on_held
-lies_more r held i v within = list_any_more (λ k. goes_over r.graph (request_at r.paths k).path.edges v) held i 0 within
+lies_more r held i v within = list_any_more (λ k. goes_over r.graph (request_at r.requests k).path.edges v) held i 0 within
 
 pub held_more_marked : (r : Rollout) (held edges : List ℕ) (i : ℕ) (marks new : List Bool) (g : Area) → i < length held →
-    AreHeldMarks r (take i held) marks → g ≡ r.graph → edges ≡ (request_at r.paths (get_or held i 0)).path.edges → length new ≡ length marks →
+    AreHeldMarks r (take i held) marks → g ≡ r.graph → edges ≡ (request_at r.requests (get_or held i 0)).path.edges → length new ≡ length marks →
     ((v : ℕ) → v < length marks → get_or new v false ≡ (get_or marks v false || goes_over g edges v)) → AreHeldMarks r (take (i + 1) held) new
 held_more_marked r held edges i marks new g within are graph edges_are count told = record {
   count = count ∙ are.count;
@@ -79,7 +87,7 @@ held_more_marked r held edges i marks new g within are graph edges_are count tol
       ∙ sym (lies_more r held i v within);
 }
 
--- Lines off held paths, one after another.
+-- Variables off held paths, one after another.
 
 all_more : (p : ℕ → Bool) (xs : List ℕ) (i : ℕ) → i < length xs → list_all p (take i xs) ≡ true → p (get_or xs i 0) ≡ true → list_all p (take (i + 1) xs) ≡ true
 all_more p xs i within so_far here = list_all_more p xs i 0 within ∙ and_from (list_all p (take i xs)) (p (get_or xs i 0)) so_far here
@@ -88,45 +96,45 @@ off_held : (r : Rollout) (held : List ℕ) (marks : List Bool) (v : ℕ) → Are
     not (lies_on_held r held v) ≡ true
 off_held r held marks v are known left = not_from_false (lies_on_held r held v) (sym (are.told v known) ∙ left)
 
-pub risen_more : (r : Rollout) (held : List ℕ) (marks : List Bool) (lines : List ℕ) (i : ℕ) → i < length lines → get_or lines i 0 < length r.moves.present →
-    AreHeldMarks r held marks → rises r.moves (get_or lines i 0) ≡ true → get_or marks (get_or lines i 0) false ≡ false →
-    list_all (rises_off_held r held) (take i lines) ≡ true → list_all (rises_off_held r held) (take (i + 1) lines) ≡ true
-risen_more r held marks lines i within known are rise left so_far =
-    all_more (rises_off_held r held) lines i within so_far
-    (and_from (rises r.moves (get_or lines i 0)) (not (lies_on_held r held (get_or lines i 0))) rise (off_held r held marks (get_or lines i 0) are known left))
+pub risen_more : (r : Rollout) (held : List ℕ) (marks : List Bool) (variables : List ℕ) (i : ℕ) → i < length variables →
+    get_or variables i 0 < length r.moves.present →
+    AreHeldMarks r held marks → rises r.moves (get_or variables i 0) ≡ true → get_or marks (get_or variables i 0) false ≡ false →
+    list_all (rises_off_held r held) (take i variables) ≡ true → list_all (rises_off_held r held) (take (i + 1) variables) ≡ true
+risen_more r held marks variables i within known are rise left so_far =
+    all_more (rises_off_held r held) variables i within so_far
+    (and_from (rises r.moves (get_or variables i 0)) (not (lies_on_held r held (get_or variables i 0))) rise
+    (off_held r held marks (get_or variables i 0) are known left))
 
-pub fallen_more : (r : Rollout) (held : List ℕ) (marks : List Bool) (lines : List ℕ) (i : ℕ) → i < length lines → get_or lines i 0 < length r.moves.present →
-    AreHeldMarks r held marks → rises r.moves (get_or lines i 0) ≡ false → get_or marks (get_or lines i 0) false ≡ false →
-    list_all (falls_off_held r held) (take i lines) ≡ true → list_all (falls_off_held r held) (take (i + 1) lines) ≡ true
-fallen_more r held marks lines i within known are fall left so_far =
-    all_more (falls_off_held r held) lines i within so_far
-    (and_from (not (rises r.moves (get_or lines i 0))) (not (lies_on_held r held (get_or lines i 0))) (not_from_false (rises r.moves (get_or lines i 0)) fall)
-    (off_held r held marks (get_or lines i 0) are known left))
+pub fallen_more : (r : Rollout) (held : List ℕ) (marks : List Bool) (variables : List ℕ) (i : ℕ) → i < length variables →
+    get_or variables i 0 < length r.moves.present →
+    AreHeldMarks r held marks → rises r.moves (get_or variables i 0) ≡ false → get_or marks (get_or variables i 0) false ≡ false →
+    list_all (falls_off_held r held) (take i variables) ≡ true → list_all (falls_off_held r held) (take (i + 1) variables) ≡ true
+fallen_more r held marks variables i within known are fall left so_far =
+    all_more (falls_off_held r held) variables i within so_far
+    (and_from (not (rises r.moves (get_or variables i 0))) (not (lies_on_held r held (get_or variables i 0)))
+    (not_from_false (rises r.moves (get_or variables i 0)) fall)
+    (off_held r held marks (get_or variables i 0) are known left))
 
--- a line of another kind, and one that is on a held path
-and_no : (a b : Bool) → b ≡ false → (a && b) ≡ false
-and_no true b is = is
-and_no false b is = refl
-
+-- a variable of another kind, and one that is on a held path
 fails_at : (p : ℕ → Bool) (xs : List ℕ) (i : ℕ) → i < length xs → p (get_or xs i 0) ≡ false → false ≡ list_all p xs
 fails_at p xs i within here = sym (list_all_at p xs i 0 within here)
 
-pub not_risen : (r : Rollout) (held lines : List ℕ) (i : ℕ) → i < length lines → rises r.moves (get_or lines i 0) ≡ false →
-    false ≡ list_all (rises_off_held r held) lines
-not_risen r held lines i within fall =
-    fails_at (rises_off_held r held) lines i within (ap (λ (b : Bool). b && not (lies_on_held r held (get_or lines i 0))) fall)
+pub not_risen : (r : Rollout) (held variables : List ℕ) (i : ℕ) → i < length variables → rises r.moves (get_or variables i 0) ≡ false →
+    false ≡ list_all (rises_off_held r held) variables
+not_risen r held variables i within fall =
+    fails_at (rises_off_held r held) variables i within (ap (λ (b : Bool). b && not (lies_on_held r held (get_or variables i 0))) fall)
 
-pub not_fallen : (r : Rollout) (held lines : List ℕ) (i : ℕ) → i < length lines → rises r.moves (get_or lines i 0) ≡ true →
-    false ≡ list_all (falls_off_held r held) lines
-not_fallen r held lines i within rise =
-    fails_at (falls_off_held r held) lines i within (ap (λ (b : Bool). not b && not (lies_on_held r held (get_or lines i 0))) rise)
+pub not_fallen : (r : Rollout) (held variables : List ℕ) (i : ℕ) → i < length variables → rises r.moves (get_or variables i 0) ≡ true →
+    false ≡ list_all (falls_off_held r held) variables
+not_fallen r held variables i within rise =
+    fails_at (falls_off_held r held) variables i within (ap (λ (b : Bool). not b && not (lies_on_held r held (get_or variables i 0))) rise)
 
-pub not_off : (r : Rollout) (held : List ℕ) (marks : List Bool) (lines : List ℕ) (i : ℕ) (test : ℕ → Bool) → i < length lines →
-    get_or lines i 0 < length r.moves.present → AreHeldMarks r held marks → get_or marks (get_or lines i 0) false ≡ true →
-    false ≡ list_all (λ v. test v && not (lies_on_held r held v)) lines
-not_off r held marks lines i test within known are marked =
-    fails_at (λ v. test v && not (lies_on_held r held v)) lines i within
-    (and_no (test (get_or lines i 0)) (not (lies_on_held r held (get_or lines i 0))) (ap not (sym (are.told (get_or lines i 0) known) ∙ marked)))
+pub not_off : (r : Rollout) (held : List ℕ) (marks : List Bool) (variables : List ℕ) (i : ℕ) (test : ℕ → Bool) → i < length variables →
+    get_or variables i 0 < length r.moves.present → AreHeldMarks r held marks → get_or marks (get_or variables i 0) false ≡ true →
+    false ≡ list_all (λ v. test v && not (lies_on_held r held v)) variables
+not_off r held marks variables i test within known are marked =
+    fails_at (λ v. test v && not (lies_on_held r held v)) variables i within
+    (and_right (test (get_or variables i 0)) (not (lies_on_held r held (get_or variables i 0))) (ap not (sym (are.told (get_or variables i 0) known) ∙ marked)))
 
 -- Steps that may follow.
 
@@ -136,24 +144,25 @@ between_is Between is = refl
 between_is Last is = absurd (false≢true is)
 
 pub follows_by : (r : Rollout) (held : List ℕ) (marks : List Bool) (k : ℕ) → k < step_count r →
-    (comes_between (kind_of_step r held k) && not (is_done_in marks k)) ≡ true → MayFollow r held marks k
+    (comes_between (kind_of_step r held k) && not (is_marked marks k)) ≡ true → MayFollow r held marks k
 follows_by r held marks k known test =
-    let parts = and_parts (comes_between (kind_of_step r held k)) (not (is_done_in marks k)) test in
-    record { known = known; between = between_is (kind_of_step r held k) parts.0; left = not-true (is_done_in marks k) parts.1 }
+    let parts = and_parts (comes_between (kind_of_step r held k)) (not (is_marked marks k)) test in
+    record { known = known; between = between_is (kind_of_step r held k) parts.0; left = not-true (is_marked marks k) parts.1 }
 
 pub follows_test : (r : Rollout) (held : List ℕ) (marks : List Bool) (k : ℕ) → MayFollow r held marks k →
-    (comes_between (kind_of_step r held k) && not (is_done_in marks k)) ≡ true
+    (comes_between (kind_of_step r held k) && not (is_marked marks k)) ≡ true
 follows_test r held marks k follows =
-    and_from (comes_between (kind_of_step r held k)) (not (is_done_in marks k)) (ap comes_between follows.between) (not_from_false (is_done_in marks k) follows.left)
+    and_from (comes_between (kind_of_step r held k)) (not (is_marked marks k)) (ap comes_between follows.between)
+    (not_from_false (is_marked marks k) follows.left)
 
 -- none of the first n, and one more
 pub none_follow_more : (r : Rollout) (held : List ℕ) (marks : List Bool) (n : ℕ) → ((k : ℕ) → k < n → MayFollow r held marks k → ⊥) →
-    (comes_between (kind_of_step r held n) && not (is_done_in marks n)) ≡ false → (k : ℕ) → k < n + 1 → MayFollow r held marks k → ⊥
+    (comes_between (kind_of_step r held n) && not (is_marked marks n)) ≡ false → (k : ℕ) → k < n + 1 → MayFollow r held marks k → ⊥
 none_follow_more r held marks n none test k below follows = elim (cases_lt k n) [
   | inl before ↦ none k before follows
   | inr last ↦
       let same : k ≡ n = omega (arith, below, last) in
-      both_ways (comes_between (kind_of_step r held n) && not (is_done_in marks n)) test
+      both_ways (comes_between (kind_of_step r held n) && not (is_marked marks n)) test
       (follows_test r held marks n (subst (MayFollow r held marks) same follows))
 ]
 

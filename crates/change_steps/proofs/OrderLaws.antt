@@ -1,19 +1,21 @@
--- Safe lines and orders: they begin, grow and end; and where no state that can be reached has all steps between, no order is safe.
+-- Safe beginnings and orders: they begin, grow and end; and where no state that can be reached has all steps between,
+-- no order is safe.
 use Rattle.std.proofs.Common.{◌≡◌, ◌≢◌, ℕ, zero, suc, ◌+◌, ◌<◌, ◌≤◌, refl, sym, ◌∙◌, ap, subst, List, [], ◌∷◌, ◌++◌, length, get_or, take, inl, inr, ◌⊎◌, arith, All, Bool, true, false, cond, filter}
 use Rattle.std.specs.Prelude.{Contains}
 use Rattle.std.proofs.lemmas.Bool.{cases_Bool, cases_eq, cases_lt, both_ways, false≢true}
 use Rattle.std.proofs.lemmas.List.{take-append-le, take_all, length-append}
 use Rattle.std.proofs.lemmas.List.Elements.{All-append, All-push, Contains-append_left, Contains-append_right}
 use Rattle.cost_base.specs.Lists.{Has, Lacks, NoneTwice, numbers_from}
-use Rattle.cost_base.proofs.ListLemmas.{All-left, all_kept, none_twice_push}
+use Rattle.cost_base.proofs.ListLemmas.{All-left, all_kept, none_twice_push, taken_has, lacks_first, has_lacks, all_has}
+use Rattle.cost_base.specs.Marks.{is_one_of}
+use Rattle.cost_base.proofs.MarkLaws.{has_one_of, one_of_has}
 use Rattle.change_steps.specs.declared.kinds.Kind.{Kind}
 use Rattle.change_steps.specs.declared.kinds.Kind.TheVariants.{First, Between, Last}
 use Rattle.change_steps.specs.Rollouts.{IsRollout, Rollout, step_count}
-use Rattle.change_steps.specs.Orders.{AreHeld, IsSafe, IsSafeLine, IsSafeOrder, all_done, is_one_of, none_done}
+use Rattle.change_steps.specs.Orders.{AreHeld, IsSafe, IsSafeBeginning, IsSafeOrder, all_done, none_done}
 use Rattle.change_steps.specs.Kinds.{comes_first, comes_last, first_steps, kind_of_step}
 use Rattle.change_steps.specs.States.{first_state, marks_of}
-use Rattle.change_steps.proofs.Keeping.{has_lacks, known_if, lacks_unless}
-use Rattle.change_steps.proofs.StateCosts.{has_one_of, one_of_has}
+use Rattle.change_steps.proofs.Keeping.{lacks_unless}
 use Rattle.change_steps.proofs.KindLaws.{eased_safe}
 use Rattle.change_steps.proofs.MarkLaws.{marks_agree}
 
@@ -47,14 +49,14 @@ kept_once p a zero = tt
 kept_once p a (suc n) =
     once_cond (p a) a (filter p (numbers_from (a + 1) n))
     (lacks_unless (filter p (numbers_from (a + 1) n)) a (λ has.
-    let near = known_if (λ k. (a + 1 ≤ k) × (k < a + 1 + n) × (p k ≡ true)) (filter p (numbers_from (a + 1) n)) a (kept_known p (a + 1) n) has in
+    let near = all_has (λ k. (a + 1 ≤ k) × (k < a + 1 + n) × (p k ≡ true)) (filter p (numbers_from (a + 1) n)) a (kept_known p (a + 1) n) has in
     let above = near.0 in absurd (omega (arith, above))))
     (kept_once p (a + 1) n)
 
 -- a step is one of those that pass exactly where it passes
 pub that_passes : (r : Rollout) (p : ℕ → Bool) (k : ℕ) → is_one_of (steps_that r p) k ≡ true → (k < step_count r) × (p k ≡ true)
 that_passes r p k is =
-    let near = known_if (λ i. (0 ≤ i) × (i < 0 + step_count r) × (p i ≡ true)) (steps_that r p) k (kept_known p 0 (step_count r))
+    let near = all_has (λ i. (0 ≤ i) × (i < 0 + step_count r) × (p i ≡ true)) (steps_that r p) k (kept_known p 0 (step_count r))
     (one_of_has (steps_that r p) k is) in
     let below = near.1 in
     (omega (arith, below), near.2)
@@ -67,12 +69,6 @@ that_known r p = λ i d within. let near = kept_known p 0 (step_count r) i d wit
 
 pub that_once : (r : Rollout) (p : ℕ → Bool) → NoneTwice (steps_that r p)
 that_once r p = kept_once p 0 (step_count r)
-
--- a list has what each of its beginnings has
-taken_has : (n : ℕ) (xs : List ℕ) (x : ℕ) → Has (take n xs) x → Has xs x
-taken_has zero xs x has = absurd has
-taken_has (suc n) [] x has = absurd has
-taken_has (suc n) (y ∷ ys) x has = elim has [ inl same ↦ inl same | inr later ↦ inr (taken_has n ys x later) ]
 
 pub taken_one_of : (n : ℕ) (xs : List ℕ) (x : ℕ) → is_one_of (take n xs) x ≡ true → is_one_of xs x ≡ true
 taken_one_of n xs x is = has_one_of xs x (taken_has n xs x (one_of_has (take n xs) x is))
@@ -94,13 +90,9 @@ once_append (x ∷ xs) ys mine theirs apart = (
   once_append xs ys mine.1 theirs (λ y has there. apart y (inr has) there),
 )
 
-lacks_left : (xs ys : List ℕ) (x : ℕ) → Lacks (xs ++ ys) x → Lacks xs x
-lacks_left [] ys x lacks = tt
-lacks_left (y ∷ xs) ys x lacks = (lacks.0, lacks_left xs ys x lacks.1)
-
 once_left : (xs ys : List ℕ) → NoneTwice (xs ++ ys) → NoneTwice xs
 once_left [] ys once = tt
-once_left (x ∷ xs) ys once = (lacks_left xs ys x once.0, once_left xs ys once.1)
+once_left (x ∷ xs) ys once = (lacks_first xs ys x once.0, once_left xs ys once.1)
 
 pub contains_has : (xs : List ℕ) (x : ℕ) → Has xs x → Contains xs x
 contains_has [] x has = absurd has
@@ -117,11 +109,11 @@ has_contains xs x at = go xs at.0 at.1 at.2
     go (y ∷ ys) zero within same = inl (sym same)
     go (y ∷ ys) (suc i) within same = inr (go ys i (omega arith) same)
 
--- Safe lines.
+-- Safe beginnings.
 
--- the first steps, in order, are a safe line
-pub first_line : (r : Rollout) (held : List ℕ) → IsRollout r → AreHeld r held → IsSafeLine r held (first_steps r held)
-first_line r held is are = record {
+-- the first steps, in order, are a safe beginning
+pub first_beginning : (r : Rollout) (held : List ℕ) → IsRollout r → AreHeld r held → IsSafeBeginning r held (first_steps r held)
+first_beginning r held is are = record {
   known = that_known r (λ k. comes_first (kind_of_step r held k));
   once = that_once r (λ k. comes_first (kind_of_step r held k));
   safe = λ n within. eased_safe r held none_done (is_one_of (take n (first_steps r held))) is
@@ -149,59 +141,60 @@ first_state_is r held = marks_agree r (λ k. comes_first (kind_of_step r held k)
       ]
     ])
 
--- a line with one more step
-pub line_push : (r : Rollout) (held xs : List ℕ) (k : ℕ) → IsSafeLine r held xs → k < step_count r → is_one_of xs k ≡ false →
-    IsSafe r held (is_one_of (xs ++ k ∷ [])) → IsSafeLine r held (xs ++ k ∷ [])
-line_push r held xs k line known new safe = record {
-  known = All-push (λ i. i < step_count r) xs k line.known known;
-  once = none_twice_push xs k line.once (lacks_unless xs k (λ has. both_ways (is_one_of xs k) new (has_one_of xs k has)));
+-- a beginning with one more step
+pub beginning_push : (r : Rollout) (held xs : List ℕ) (k : ℕ) → IsSafeBeginning r held xs → k < step_count r → is_one_of xs k ≡ false →
+    IsSafe r held (is_one_of (xs ++ k ∷ [])) → IsSafeBeginning r held (xs ++ k ∷ [])
+beginning_push r held xs k beginning known new safe = record {
+  known = All-push (λ i. i < step_count r) xs k beginning.known known;
+  once = none_twice_push xs k beginning.once (lacks_unless xs k (λ has. both_ways (is_one_of xs k) new (has_one_of xs k has)));
   safe = λ n within. elim (cases_lt (length xs) n) [
-    | inl whole ↦ subst (λ (ys : List ℕ). IsSafe r held (is_one_of ys)) (sym (take_all n (xs ++ k ∷ []) (let count = length-append xs (k ∷ []) in omega (arith, count, whole)))) safe
-    | inr front ↦ subst (λ (ys : List ℕ). IsSafe r held (is_one_of ys)) (sym (take-append-le n xs (k ∷ []) front)) (line.safe n front)
+    | inl whole ↦ subst (λ (ys : List ℕ). IsSafe r held (is_one_of ys)) (sym (take_all n (xs ++ k ∷ [])
+        (let count = length-append xs (k ∷ []) in omega (arith, count, whole)))) safe
+    | inr front ↦ subst (λ (ys : List ℕ). IsSafe r held (is_one_of ys)) (sym (take-append-le n xs (k ∷ []) front)) (beginning.safe n front)
   ];
 }
 
--- a line without its end
-pub line_left : (r : Rollout) (held xs ys : List ℕ) → IsSafeLine r held (xs ++ ys) → IsSafeLine r held xs
-line_left r held xs ys line = record {
-  known = All-left (λ i. i < step_count r) xs ys line.known;
-  once = once_left xs ys line.once;
+-- a beginning without its end
+pub beginning_left : (r : Rollout) (held xs ys : List ℕ) → IsSafeBeginning r held (xs ++ ys) → IsSafeBeginning r held xs
+beginning_left r held xs ys beginning = record {
+  known = All-left (λ i. i < step_count r) xs ys beginning.known;
+  once = once_left xs ys beginning.once;
   safe = λ n within. subst (λ (zs : List ℕ). IsSafe r held (is_one_of zs)) (take-append-le n xs ys within)
-      (line.safe n (let count = length-append xs ys in omega (arith, count, within)));
+      (beginning.safe n (let count = length-append xs ys in omega (arith, count, within)));
 }
 
 -- the last steps, in order
 abbrev pub last_steps : Rollout → List ℕ → List ℕ
 last_steps r held = steps_that r (λ k. comes_last (kind_of_step r held k))
 
--- a line that has each step but last ones makes an order with these behind it
-pub line_ends : (r : Rollout) (held line : List ℕ) → IsRollout r → AreHeld r held → IsSafeLine r held line →
-    ((k : ℕ) → is_one_of line k ≡ true → comes_last (kind_of_step r held k) ≡ false) →
-    ((k : ℕ) → k < step_count r → comes_last (kind_of_step r held k) ≡ false → is_one_of line k ≡ true) →
-    IsSafeOrder r held (line ++ last_steps r held)
-line_ends r held line is are safe none_last whole = record {
-  line = record {
-    known = All-append (λ k. k < step_count r) line (last_steps r held) safe.known (that_known r last);
-    once = once_append line (last_steps r held) safe.once (that_once r last)
-        (λ k has there. both_ways (last k) (none_last k (has_one_of line k has)) (that_passes r last k (has_one_of (last_steps r held) k there)).1);
-    safe = λ n within. elim (cases_lt (length line) n) [
-      | inl past ↦ eased_safe r held all_done (is_one_of (take n (line ++ last_steps r held))) is
-          (λ k near. elim (cases_Bool (is_one_of (take n (line ++ last_steps r held)) k)) [
+-- a beginning that has each step but last ones makes an order with these behind it
+pub beginning_ends : (r : Rollout) (held beginning : List ℕ) → IsRollout r → AreHeld r held → IsSafeBeginning r held beginning →
+    ((k : ℕ) → is_one_of beginning k ≡ true → comes_last (kind_of_step r held k) ≡ false) →
+    ((k : ℕ) → k < step_count r → comes_last (kind_of_step r held k) ≡ false → is_one_of beginning k ≡ true) →
+    IsSafeOrder r held (beginning ++ last_steps r held)
+beginning_ends r held beginning is are safe none_last whole = record {
+  beginning = record {
+    known = All-append (λ k. k < step_count r) beginning (last_steps r held) safe.known (that_known r last);
+    once = once_append beginning (last_steps r held) safe.once (that_once r last)
+        (λ k has there. both_ways (last k) (none_last k (has_one_of beginning k has)) (that_passes r last k (has_one_of (last_steps r held) k there)).1);
+    safe = λ n within. elim (cases_lt (length beginning) n) [
+      | inl past ↦ eased_safe r held all_done (is_one_of (take n (beginning ++ last_steps r held))) is
+          (λ k near. elim (cases_Bool (is_one_of (take n (beginning ++ last_steps r held)) k)) [
             | inl yes' ↦ inl (sym yes')
             | inr no' ↦ elim (cases_Bool (last k)) [
               | inl is_last ↦ inr (inr (refl, no', last_is (kind_of_step r held k) is_last))
-              | inr not_last ↦ absurd (both_ways (is_one_of (take n (line ++ last_steps r held)) k) no'
-                  (has_one_of (take n (line ++ last_steps r held)) k
-                  (has_taken line (last_steps r held) n k (omega (arith, past)) (one_of_has line k (whole k near not_last)))))
+              | inr not_last ↦ absurd (both_ways (is_one_of (take n (beginning ++ last_steps r held)) k) no'
+                  (has_one_of (take n (beginning ++ last_steps r held)) k
+                  (has_taken beginning (last_steps r held) n k (omega (arith, past)) (one_of_has beginning k (whole k near not_last)))))
             ]
           ]) are.wanted
-      | inr front ↦ subst (λ (ys : List ℕ). IsSafe r held (is_one_of ys)) (sym (take-append-le n line (last_steps r held) front)) (safe.safe n front)
+      | inr front ↦ subst (λ (ys : List ℕ). IsSafe r held (is_one_of ys)) (sym (take-append-le n beginning (last_steps r held) front)) (safe.safe n front)
     ];
   };
   all = λ k within. elim (cases_Bool (last k)) [
-    | inl is_last ↦ Contains-append_right line (last_steps r held) k (contains_has (last_steps r held) k
+    | inl is_last ↦ Contains-append_right beginning (last_steps r held) k (contains_has (last_steps r held) k
         (one_of_has (last_steps r held) k (passes_that r last k within is_last)))
-    | inr not_last ↦ Contains-append_left line (last_steps r held) k (contains_has line k (one_of_has line k (whole k within not_last)))
+    | inr not_last ↦ Contains-append_left beginning (last_steps r held) k (contains_has beginning k (one_of_has beginning k (whole k within not_last)))
   ];
 }
   where

@@ -3,7 +3,9 @@ use Rattle.std.proofs.Common.{◌≡◌, ℕ, ◌+◌, ◌*◌, ◌<◌, ◌≤�
 use Rattle.std.proofs.lemmas.Bool.{both_ways, cases_Bool, cases_lt, cond-false, cond-true}
 use Rattle.std.proofs.lemmas.List.{get_or_append_left, get_or_at, get_or_default, get_or_past, length_push}
 use Rattle.cost_base.specs.Lists.{Has}
-use Rattle.cost_base.proofs.ListLemmas.{all_kept, get_or-map-numbers_from, kept_all, length-map-numbers_from}
+use Rattle.cost_base.proofs.ListLemmas.{all_kept, get_or-map-numbers_from, kept_all, length-map-numbers_from, all_has}
+use Rattle.cost_base.specs.Marks.{is_marked, is_one_of}
+use Rattle.cost_base.proofs.MarkLaws.{has_one_of, one_of_has}
 use Rattle.area_graph.specs.declared.Edge.{Edge}
 use Rattle.area_graph.specs.declared.Point.{Point}
 use Rattle.area_graph.specs.declared.Price.TheVariants.{Var}
@@ -15,14 +17,13 @@ use Rattle.area_graph.proofs.Visits.{joined_known}
 use Rattle.design_problem.specs.Problems.{request_at, request_ends}
 use Rattle.spf_ties.specs.Distances.{IsLeastCost}
 use Rattle.change_steps.specs.declared.reach.Reach.{Reach}
-use Rattle.change_steps.specs.Rollouts.{CostMoves, IsInterfaceCost, IsRollout, Rollout, lines_of_step, step_count}
-use Rattle.change_steps.specs.Orders.{IsOnlyIn, costs_in, is_changed, is_one_of}
-use Rattle.change_steps.specs.States.{is_done_in}
+use Rattle.change_steps.specs.Rollouts.{CostMoves, IsInterfaceCost, IsRollout, Rollout, variables_of_step, step_count}
+use Rattle.change_steps.specs.Orders.{IsOnlyIn, costs_in, is_changed}
 use Rattle.change_steps.specs.Search.{HasMore}
 use Rattle.change_steps.specs.Reaches.{AreLeastToEach, AreDearerOver, AreLeastTo, IsHarmless, IsReach, least_from_to, edges_of_step, has_price, least_cost, least_costs, price_rises}
-use Rattle.change_steps.proofs.Keeping.{known_if, only_unless, paid, pays_more}
+use Rattle.change_steps.proofs.Keeping.{only_unless, paid, pays_more}
 use Rattle.change_steps.proofs.Passages.{costs_over}
-use Rattle.change_steps.proofs.StateCosts.{changed_if, cost_at, cost_changed, cost_left, costs_le, has_one_of, one_of_has, price_le}
+use Rattle.change_steps.proofs.StateCosts.{changed_if, cost_at, cost_changed, cost_left, costs_le, price_le}
 use Rattle.change_steps.proofs.KindLaws.{between_costs, same_change}
 use Rattle.change_steps.proofs.StateLaws.{point_fits}
 
@@ -82,7 +83,8 @@ least_fits r is = record {
         (is.moves.wanted v 0 (let count = is.moves.count in omega (arith, count, near))))
 
 -- at them a path costs no more than in a state
-least_paid : (r : Rollout) (done : ℕ → Bool) (es : List ℕ) → cost r.graph (at_costs (least_costs r.moves)) es ≤ cost r.graph (at_costs (costs_in r.moves done)) es
+least_paid : (r : Rollout) (done : ℕ → Bool) (es : List ℕ) → cost r.graph (at_costs (least_costs r.moves)) es ≤ cost r.graph (at_costs (costs_in r.moves done))
+    es
 least_paid r done es = pays_more r.graph (at_costs (least_costs r.moves)) (at_costs (costs_in r.moves done)) es
     (λ e. price_le (least_costs r.moves) (costs_in r.moves done) (edge_at r.graph e).price (λ v price. least_below r.moves done v))
 
@@ -137,7 +139,8 @@ at_least_more g p n least row count are is = λ target. elim (cases_lt target n)
 
 pub step_edges_known : (r : Rollout) (step : ℕ) → All (λ e. e < length r.graph.edges) (edges_of_step r step)
 unfolding edges_of_step
-step_edges_known r step = all_kept (λ e. e < length r.graph.edges) (λ e. has_price (lines_of_step r.moves step) (edge_at r.graph e).price) 0 (length r.graph.edges)
+step_edges_known r step = all_kept (λ e. e < length r.graph.edges) (λ e. has_price (variables_of_step r.moves step) (edge_at r.graph e).price) 0
+    (length r.graph.edges)
     (λ e above below has. omega (arith, below))
 
 pub step_edges : (r : Rollout) (reach : Reach) (step : ℕ) → IsReach r reach → step < step_count r → get_or reach.edges step [] ≡ edges_of_step r step
@@ -149,7 +152,7 @@ step_within r reach step is known = let count = ap length is.edges ∙ length-ma
 
 -- a price in a state is an interface cost
 pub price_below : (r : Rollout) (g : Area) (marks : List Bool) (p : Point) (e : ℕ) (edge : Edge) → IsRollout r → HasMetrics g → g ≡ r.graph →
-    p ≡ at_costs (costs_in r.moves (is_done_in marks)) → e < length r.graph.edges → edge ≡ edge_at g e → price_at p edge.price ≤ 65535
+    p ≡ at_costs (costs_in r.moves (is_marked marks)) → e < length r.graph.edges → edge ≡ edge_at g e → price_at p edge.price ≤ 65535
 price_below r g marks p e edge is metrics graph same known edge_is =
     let fits = point_fits r g marks p is graph same in
     let within : e < length g.edges = subst (λ (h : Area). e < length h.edges) (sym graph) known in
@@ -168,16 +171,18 @@ least_point_fits r g p is graph same =
 -- rivals over an edge are dearer than a path that costs less than they do at least
 pub dearer_over : (r : Rollout) (done : ℕ → Bool) (least : List (List ℕ)) (k e mine : ℕ) → IsRollout r →
     AreLeastToEach r.graph (at_costs (least_costs r.moves)) least →
-    mine ≡ cost r.graph (at_costs (costs_in r.moves done)) (request_at r.paths k).path.edges →
-    mine < least_from_to least (request_at r.paths k).path.start (edge_at r.graph e).from
-    + (paid r.graph (at_costs (costs_in r.moves done)) e + least_from_to least (edge_at r.graph e).to (request_at r.paths k).end) →
+    mine ≡ cost r.graph (at_costs (costs_in r.moves done)) (request_at r.requests k).path.edges →
+    mine < least_from_to least (request_at r.requests k).path.start (edge_at r.graph e).from
+    + (paid r.graph (at_costs (costs_in r.moves done)) e + least_from_to least (edge_at r.graph e).to (request_at r.requests k).end) →
     AreDearerOver r done k e
 dearer_over r done least k e mine is are same less = λ other path has.
-    let over = costs_over r.graph (at_costs (costs_in r.moves done)) (request_ends (request_at r.paths k)) e
-    (least_from_to least (request_at r.paths k).path.start (edge_at r.graph e).from) (least_from_to least (edge_at r.graph e).to (request_at r.paths k).end)
+    let over = costs_over r.graph (at_costs (costs_in r.moves done)) (request_ends (request_at r.requests k)) e
+    (least_from_to least (request_at r.requests k).path.start (edge_at r.graph e).from) (least_from_to least (edge_at r.graph e).to
+    (request_at r.requests k).end)
     other is.graph path has
-    (λ way is_way. let low = are (edge_at r.graph e).from (request_at r.paths k).path.start way is_way in let up = least_paid r done way in omega (arith, low, up))
-    (λ way is_way. let low = are (request_at r.paths k).end (edge_at r.graph e).to way is_way in let up = least_paid r done way in omega (arith, low, up)) in
+    (λ way is_way. let low = are (edge_at r.graph e).from (request_at r.requests k).path.start way is_way in let up = least_paid r done way in
+    omega (arith, low, up))
+    (λ way is_way. let low = are (request_at r.requests k).end (edge_at r.graph e).to way is_way in let up = least_paid r done way in omega (arith, low, up)) in
     omega (arith, over, less, same)
 
 -- a path that a step takes nothing from stays the only cheapest after it
@@ -185,9 +190,10 @@ pub harmless_only : (r : Rollout) (f g : ℕ → Bool) (step k : ℕ) → IsRoll
     All (IsHarmless r g k) (edges_of_step r step) → IsOnlyIn r f k → IsOnlyIn r g k
 unfolding edges_of_step
 harmless_only r f g step k is more harmless only =
-    only_unless r.graph (at_costs (costs_in r.moves f)) (at_costs (costs_in r.moves g)) (request_ends (request_at r.paths k)) (request_at r.paths k).path.edges only
+    only_unless r.graph (at_costs (costs_in r.moves f)) (at_costs (costs_in r.moves g)) (request_ends (request_at r.requests k))
+    (request_at r.requests k).path.edges only
     (λ e has. price_le (costs_in r.moves g) (costs_in r.moves f) (edge_at r.graph e).price
-    (λ v price. costs_le r.moves g f v (elim (cases_Bool (has_price (lines_of_step r.moves step) (edge_at r.graph e).price)) [
+    (λ v price. costs_le r.moves g f v (elim (cases_Bool (has_price (variables_of_step r.moves step) (edge_at r.graph e).price)) [
       | inl in' ↦ between_costs r.moves g f v
           (λ g_is f_not. ap (price_rises r.moves) (sym price) ∙ (at e (known e has) in').on has)
           (λ g_not f_is. absurd (both_ways (is_changed r.moves g v) g_not (changed e v price in')))
@@ -196,7 +202,7 @@ harmless_only r f g step k is more harmless only =
           between_costs r.moves g f v (λ g_is f_not. absurd (both_ways (is_changed r.moves f v) f_not (same ∙ g_is)))
           (λ g_not f_is. absurd (both_ways (is_changed r.moves f v) (same ∙ g_not) f_is))
     ])))
-    (λ e within away. elim (cases_Bool (has_price (lines_of_step r.moves step) (edge_at r.graph e).price)) [
+    (λ e within away. elim (cases_Bool (has_price (variables_of_step r.moves step) (edge_at r.graph e).price)) [
       | inl in' ↦ elim ((at e within in').off away) [
         | inl rise ↦ inl (price_le (costs_in r.moves f) (costs_in r.moves g) (edge_at r.graph e).price
             (λ v price. costs_le r.moves f g v (between_costs r.moves f g v
@@ -211,19 +217,22 @@ harmless_only r f g step k is more harmless only =
           (λ f_not g_is. absurd (both_ways (is_changed r.moves f v) f_not (same ∙ g_is))))))
     ])
   where
-    known : (e : ℕ) → Has (request_at r.paths k).path.edges e → e < length r.graph.edges
-    known e has = known_if (λ i. i < length r.graph.edges) (request_at r.paths k).path.edges e
-        (joined_known r.graph (request_ends (request_at r.paths k)).start (request_at r.paths k).path.edges (request_ends (request_at r.paths k)).end only.path.simple.joins) has
+    known : (e : ℕ) → Has (request_at r.requests k).path.edges e → e < length r.graph.edges
+    known e has = all_has (λ i. i < length r.graph.edges) (request_at r.requests k).path.edges e
+        (joined_known r.graph (request_ends (request_at r.requests k)).start (request_at r.requests k).path.edges (request_ends (request_at r.requests k)).end
+        only.path.simple.joins) has
 
-    at : (e : ℕ) → e < length r.graph.edges → has_price (lines_of_step r.moves step) (edge_at r.graph e).price ≡ true → IsHarmless r g k e
-    at e within in' = kept_all (IsHarmless r g k) (λ x. has_price (lines_of_step r.moves step) (edge_at r.graph x).price) 0 (length r.graph.edges) harmless e
+    at : (e : ℕ) → e < length r.graph.edges → has_price (variables_of_step r.moves step) (edge_at r.graph e).price ≡ true → IsHarmless r g k e
+    at e within in' = kept_all (IsHarmless r g k) (λ x. has_price (variables_of_step r.moves step) (edge_at r.graph x).price) 0 (length r.graph.edges) harmless
+        e
         (omega arith) (omega (arith, within)) in'
 
-    changed : (e v : ℕ) → (edge_at r.graph e).price ≡ Var v → has_price (lines_of_step r.moves step) (edge_at r.graph e).price ≡ true → is_changed r.moves g v ≡ true
+    changed : (e v : ℕ) → (edge_at r.graph e).price ≡ Var v → has_price (variables_of_step r.moves step) (edge_at r.graph e).price ≡ true →
+        is_changed r.moves g v ≡ true
     changed e v price in' = changed_if r.moves g v step more.known more.done
-        (one_of_has (lines_of_step r.moves step) v (ap (has_price (lines_of_step r.moves step)) (sym price) ∙ in'))
+        (one_of_has (variables_of_step r.moves step) v (ap (has_price (variables_of_step r.moves step)) (sym price) ∙ in'))
 
-    unchanged : (e v : ℕ) → (edge_at r.graph e).price ≡ Var v → has_price (lines_of_step r.moves step) (edge_at r.graph e).price ≡ false →
+    unchanged : (e v : ℕ) → (edge_at r.graph e).price ≡ Var v → has_price (variables_of_step r.moves step) (edge_at r.graph e).price ≡ false →
         is_changed r.moves f v ≡ is_changed r.moves g v
-    unchanged e v price out = same_change r f g step v more (λ has. both_ways (is_one_of (lines_of_step r.moves step) v)
-        (ap (has_price (lines_of_step r.moves step)) (sym price) ∙ out) (has_one_of (lines_of_step r.moves step) v has))
+    unchanged e v price out = same_change r f g step v more (λ has. both_ways (is_one_of (variables_of_step r.moves step) v)
+        (ap (has_price (variables_of_step r.moves step)) (sym price) ∙ out) (has_one_of (variables_of_step r.moves step) v has))

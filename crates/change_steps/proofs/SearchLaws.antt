@@ -5,15 +5,16 @@ use Rattle.std.proofs.lemmas.Bool.{cases_lt}
 use Rattle.std.proofs.lemmas.List.{get_or_at, get_or_append_left, get_or_default, length-append, length_push, take-append-le, take_all, take_at}
 use Rattle.std.proofs.lemmas.List.Elements.{All-nil, All-push, Contains-append_left, Contains-get_or, Contains-push, Contains-push_cases}
 use Rattle.cost_base.proofs.ListLemmas.{All-left}
+use Rattle.cost_base.specs.Marks.{is_marked, is_one_of}
 use Rattle.change_steps.specs.declared.kinds.Kind.TheVariants.{Between}
 use Rattle.change_steps.specs.Rollouts.{IsRollout, step_count}
-use Rattle.change_steps.specs.Orders.{AreHeld, IsSafe, IsSafeLine, is_one_of}
+use Rattle.change_steps.specs.Orders.{AreHeld, IsSafe, IsSafeBeginning}
 use Rattle.change_steps.specs.Kinds.{first_steps, kind_of_step}
-use Rattle.change_steps.specs.States.{AreAllReached, AreTested, IsAnotherReached, IsReached, MayFollow, is_done_in, marks_of}
+use Rattle.change_steps.specs.States.{AreAllReached, AreTested, IsAnotherReached, IsReached, MayFollow, marks_of}
 use Rattle.change_steps.specs.Outcomes.{IsGreatest, done_count}
 use Rattle.change_steps.specs.Search.{AllLack, HeldRollout, IsExplored, IsNewStep, IsOnWay, IsSearch, Position, order_behind_first, longer_of, way_state}
 use Rattle.change_steps.proofs.MarkLaws.{done_count_of, marks_at, marks_push, marks_safe, safe_marks}
-use Rattle.change_steps.proofs.OrderLaws.{first_line, first_state_is, line_left, line_push}
+use Rattle.change_steps.proofs.OrderLaws.{first_beginning, first_state_is, beginning_left, beginning_push}
 
 -- The tested states with one more.
 
@@ -57,13 +58,13 @@ tested_push p tested marks are reached new = record {
 
 -- from a tested safe state, by a step that may follow
 reached_by : (p : HeldRollout) (tested : List (List Bool)) (marks : List Bool) (step : ℕ) → Contains tested marks →
-    IsSafe p.rollout p.held (is_done_in marks) → MayFollow p.rollout p.held marks step → IsReached p.rollout p.held tested (set marks step true)
+    IsSafe p.rollout p.held (is_marked marks) → MayFollow p.rollout p.held marks step → IsReached p.rollout p.held tested (set marks step true)
 reached_by p tested marks step here safe follows =
     let at : get_or tested here.0 [] ≡ marks = get_or_default tested here.0 [] marks here.1 ∙ here.2 in
     record {
       from = here.0;
       within = here.1;
-      safe = subst (λ (m : List Bool). IsSafe p.rollout p.held (is_done_in m)) (sym at) safe;
+      safe = subst (λ (m : List Bool). IsSafe p.rollout p.held (is_marked m)) (sym at) safe;
       step = step;
       follows = subst (λ (m : List Bool). MayFollow p.rollout p.held m step) (sym at) follows;
       same = sym (ap (λ (m : List Bool). set m step true) at);
@@ -83,31 +84,32 @@ explored_more p tested marks k explored here = λ i below follows. elim (cases_l
 -- The way.
 
 -- where the search stands
-pub top_safe : (p : HeldRollout) (s : Position) → IsSearch p s → IsSafe p.rollout p.held (is_done_in (way_state p s.order))
+pub top_safe : (p : HeldRollout) (s : Position) → IsSearch p s → IsSafe p.rollout p.held (is_marked (way_state p s.order))
 top_safe p s is =
     marks_safe p.rollout p.held (is_one_of (order_behind_first p s.order)) (way_state p s.order) refl
     (subst (λ (xs : List ℕ). IsSafe p.rollout p.held (is_one_of xs))
     (take_all (length (order_behind_first p s.order)) (order_behind_first p s.order) (omega arith))
-    (is.line.safe (length (order_behind_first p s.order)) (omega arith)))
+    (is.beginning.safe (length (order_behind_first p s.order)) (omega arith)))
 
 pub top_tested : (p : HeldRollout) (s : Position) → IsSearch p s → Contains s.tested (way_state p s.order)
-top_tested p s is = subst (λ (xs : List ℕ). Contains s.tested (way_state p xs)) (take_all (length s.order) s.order (omega arith)) (is.on_way (length s.order) (omega arith))
+top_tested p s is = subst (λ (xs : List ℕ). Contains s.tested (way_state p xs)) (take_all (length s.order) s.order (omega arith))
+    (is.on_way (length s.order) (omega arith))
 
-line_push_is : (p : HeldRollout) (order : List ℕ) (k : ℕ) → order_behind_first p (order ++ k ∷ []) ≡ order_behind_first p order ++ k ∷ []
-line_push_is p order k = sym (append_assoc (first_steps p.rollout p.held) order (k ∷ []))
+beginning_push_is : (p : HeldRollout) (order : List ℕ) (k : ℕ) → order_behind_first p (order ++ k ∷ []) ≡ order_behind_first p order ++ k ∷ []
+beginning_push_is p order k = sym (append_assoc (first_steps p.rollout p.held) order (k ∷ []))
 
 -- the state after one step more
 pub way_push : (p : HeldRollout) (order : List ℕ) (k : ℕ) → k < step_count p.rollout → set (way_state p order) k true ≡ way_state p (order ++ k ∷ [])
 way_push p order k known = marks_push p.rollout (order_behind_first p order) k known
-    ∙ ap (λ (xs : List ℕ). marks_of p.rollout (is_one_of xs)) (sym (line_push_is p order k))
+    ∙ ap (λ (xs : List ℕ). marks_of p.rollout (is_one_of xs)) (sym (beginning_push_is p order k))
 
 -- a step that may follow isn't on the way
 step_new : (p : HeldRollout) (order : List ℕ) (k : ℕ) → MayFollow p.rollout p.held (way_state p order) k → is_one_of (order_behind_first p order) k ≡ false
 step_new p order k follows = sym (marks_at p.rollout (is_one_of (order_behind_first p order)) k follows.known) ∙ follows.left
 
-count_of : (p : HeldRollout) (order : List ℕ) → IsSafeLine p.rollout p.held (order_behind_first p order) →
+count_of : (p : HeldRollout) (order : List ℕ) → IsSafeBeginning p.rollout p.held (order_behind_first p order) →
     done_count (way_state p order) ≡ length (order_behind_first p order)
-count_of p order line = done_count_of p.rollout (order_behind_first p order) line.known line.once
+count_of p order beginning = done_count_of p.rollout (order_behind_first p order) beginning.known beginning.once
 
 -- It begins with the first steps.
 
@@ -117,7 +119,7 @@ zeros = 0 ∷ []
 pub search_begins : (p : HeldRollout) → IsRollout p.rollout → AreHeld p.rollout p.held →
     IsSearch p (record { order = []; next = 0; tested = way_state p [] ∷ []; greatest = [] })
 search_begins p is are = record {
-  line = line;
+  beginning = beginning;
   between = All-nil (λ k. kind_of_step p.rollout p.held k ≡ Between);
   are = record {
     some = omega arith;
@@ -129,14 +131,14 @@ search_begins p is are = record {
   explored = λ d within. λ k below. absurd (let nothing = zero_at d in omega (arith, below, nothing));
   finished = λ marks here safe. inl (0, omega arith, only marks here.0 here.1 here.2);
   most = record {
-    line = line;
+    beginning = beginning;
     rest = [];
     begin = refl;
     between = All-nil (λ k. kind_of_step p.rollout p.held k ≡ Between);
     place = 0;
     within = omega arith;
     same = refl;
-    greatest = λ i within safe. let count = count_of p [] line in let first : i ≡ 0 = omega (arith, within) in
+    greatest = λ i within safe. let count = count_of p [] beginning in let first : i ≡ 0 = omega (arith, within) in
         subst (λ (n : ℕ). done_count (get_or (way_state p [] ∷ []) n []) ≤ length (order_behind_first p [])) (sym first) (omega (arith, count));
     earliest = λ i less safe. absurd (omega arith);
   };
@@ -145,8 +147,8 @@ search_begins p is are = record {
     none : order_behind_first p [] ≡ first_steps p.rollout p.held
     none = append-nil (first_steps p.rollout p.held)
 
-    line : IsSafeLine p.rollout p.held (order_behind_first p [])
-    line = subst (λ (xs : List ℕ). IsSafeLine p.rollout p.held xs) (sym none) (first_line p.rollout p.held is are)
+    beginning : IsSafeBeginning p.rollout p.held (order_behind_first p [])
+    beginning = subst (λ (xs : List ℕ). IsSafeBeginning p.rollout p.held xs) (sym none) (first_beginning p.rollout p.held is are)
 
     none_taken : (d : ℕ) → take {A = ℕ} d [] ≡ []
     none_taken zero = refl
@@ -174,7 +176,7 @@ begin_lacks p k follows = λ marks here safe. (k, subst (λ (m : List Bool). May
 pub search_moves : (p : HeldRollout) (s : Position) (k : ℕ) → IsSearch p s → IsExplored p s.tested (way_state p s.order) k →
     IsSearch p (record { order = s.order; next = k; tested = s.tested; greatest = s.greatest })
 search_moves p s k is explored = record {
-  line = is.line;
+  beginning = is.beginning;
   between = is.between;
   are = is.are;
   on_way = is.on_way;
@@ -205,9 +207,9 @@ push_are p s step is new =
 
 -- the greatest state stays where none is greater
 greatest_stays : (p : HeldRollout) (tested : List (List Bool)) (marks : List Bool) (done : List ℕ) → IsGreatest p.rollout p.held tested done →
-    (IsSafe p.rollout p.held (is_done_in marks) → done_count marks ≤ length done) → IsGreatest p.rollout p.held (tested ++ marks ∷ []) done
+    (IsSafe p.rollout p.held (is_marked marks) → done_count marks ≤ length done) → IsGreatest p.rollout p.held (tested ++ marks ∷ []) done
 greatest_stays p tested marks done is less = record {
-  line = is.line;
+  beginning = is.beginning;
   rest = is.rest;
   begin = is.begin;
   between = is.between;
@@ -216,39 +218,40 @@ greatest_stays p tested marks done is less = record {
   same = get_or_append_left tested (marks ∷ []) [] is.place is.within ∙ is.same;
   greatest = λ i within safe. elim (cases_lt i (length tested)) [
     | inl before ↦ subst (λ (m : List Bool). done_count m ≤ length done) (sym (get_or_append_left tested (marks ∷ []) [] i before))
-        (is.greatest i before (subst (λ (m : List Bool). IsSafe p.rollout p.held (is_done_in m)) (get_or_append_left tested (marks ∷ []) [] i before) safe))
+        (is.greatest i before (subst (λ (m : List Bool). IsSafe p.rollout p.held (is_marked m)) (get_or_append_left tested (marks ∷ []) [] i before) safe))
     | inr behind ↦
         let last : get_or (tested ++ marks ∷ []) i [] ≡ marks =
         get_or_at tested marks [] [] i (let count = length_push tested marks in omega (arith, count, within, behind)) in
         subst (λ (m : List Bool). done_count m ≤ length done) (sym last)
-        (less (subst (λ (m : List Bool). IsSafe p.rollout p.held (is_done_in m)) last safe))
+        (less (subst (λ (m : List Bool). IsSafe p.rollout p.held (is_marked m)) last safe))
   ];
   earliest = λ i before safe.
       let near : i < length tested = let within = is.within in omega (arith, before, within) in
       subst (λ (m : List Bool). done_count m < length done) (sym (get_or_append_left tested (marks ∷ []) [] i near))
-      (is.earliest i before (subst (λ (m : List Bool). IsSafe p.rollout p.held (is_done_in m)) (get_or_append_left tested (marks ∷ []) [] i near) safe));
+      (is.earliest i before (subst (λ (m : List Bool). IsSafe p.rollout p.held (is_marked m)) (get_or_append_left tested (marks ∷ []) [] i near) safe));
 }
 
 -- what was finished stays so, and the new state isn't safe or is on the way
 finished_push : (p : HeldRollout) (tested : List (List Bool)) (new : List Bool) (order : List ℕ) →
-    ((marks : List Bool) → Contains tested marks → IsSafe p.rollout p.held (is_done_in marks) → IsOnWay p order marks ⊎ IsExplored p tested marks (step_count p.rollout)) →
-    (IsSafe p.rollout p.held (is_done_in new) → IsOnWay p order new) → (marks : List Bool) → Contains (tested ++ new ∷ []) marks →
-    IsSafe p.rollout p.held (is_done_in marks) → IsOnWay p order marks ⊎ IsExplored p (tested ++ new ∷ []) marks (step_count p.rollout)
+    ((marks : List Bool) → Contains tested marks → IsSafe p.rollout p.held (is_marked marks) →
+    IsOnWay p order marks ⊎ IsExplored p tested marks (step_count p.rollout)) →
+    (IsSafe p.rollout p.held (is_marked new) → IsOnWay p order new) → (marks : List Bool) → Contains (tested ++ new ∷ []) marks →
+    IsSafe p.rollout p.held (is_marked marks) → IsOnWay p order marks ⊎ IsExplored p (tested ++ new ∷ []) marks (step_count p.rollout)
 finished_push p tested new order finished here marks has safe = elim (Contains-push_cases tested new marks has) [
   | inl before ↦ elim (finished marks before safe) [
     | inl on ↦ inl on
     | inr all ↦ inr (explored_push p tested new marks (step_count p.rollout) all)
   ]
-  | inr same ↦ inl (subst (IsOnWay p order) same (here (subst (λ (m : List Bool). IsSafe p.rollout p.held (is_done_in m)) (sym same) safe)))
+  | inr same ↦ inl (subst (IsOnWay p order) same (here (subst (λ (m : List Bool). IsSafe p.rollout p.held (is_marked m)) (sym same) safe)))
 ]
 
 -- a state that isn't safe
 pub search_fails : (p : HeldRollout) (s : Position) (step : ℕ) → IsSearch p s → s.next ≡ step → IsNewStep p s.tested (way_state p s.order) step →
-    (IsSafe p.rollout p.held (is_done_in (set (way_state p s.order) step true)) → ⊥) →
+    (IsSafe p.rollout p.held (is_marked (set (way_state p s.order) step true)) → ⊥) →
     IsSearch p (record { order = s.order; next = step + 1; tested = s.tested ++ set (way_state p s.order) step true ∷ []; greatest = s.greatest })
 search_fails p s step is at new unsafe = search_moves p (record { order = s.order; next = s.next; tested = tested; greatest = s.greatest }) (step + 1)
     (record {
-      line = is.line;
+      beginning = is.beginning;
       between = is.between;
       are = push_are p s step is new;
       on_way = λ d within. Contains-append_left s.tested (marks ∷ []) (way_state p (take d s.order)) (is.on_way d within);
@@ -268,14 +271,14 @@ search_fails p s step is at new unsafe = search_moves p (record { order = s.orde
 
 -- a safe state
 record Entered (p : HeldRollout) (s : Position) (step : ℕ) : Type 0 where
-  line : IsSafeLine p.rollout p.held (order_behind_first p (s.order ++ step ∷ []))
+  beginning : IsSafeBeginning p.rollout p.held (order_behind_first p (s.order ++ step ∷ []))
   way : set (way_state p s.order) step true ≡ way_state p (s.order ++ step ∷ [])
 
 entered : (p : HeldRollout) (s : Position) (step : ℕ) → IsSearch p s → IsNewStep p s.tested (way_state p s.order) step →
-    IsSafe p.rollout p.held (is_done_in (set (way_state p s.order) step true)) → Entered p s step
+    IsSafe p.rollout p.held (is_marked (set (way_state p s.order) step true)) → Entered p s step
 entered p s step is new safe = record {
-  line = subst (λ (xs : List ℕ). IsSafeLine p.rollout p.held xs) (sym (line_push_is p s.order step))
-      (line_push p.rollout p.held (order_behind_first p s.order) step is.line new.follows.known (step_new p s.order step new.follows)
+  beginning = subst (λ (xs : List ℕ). IsSafeBeginning p.rollout p.held xs) (sym (beginning_push_is p s.order step))
+      (beginning_push p.rollout p.held (order_behind_first p s.order) step is.beginning new.follows.known (step_new p s.order step new.follows)
       (safe_marks p.rollout p.held (is_one_of (order_behind_first p s.order ++ step ∷ [])) (set (way_state p s.order) step true)
       (marks_push p.rollout (order_behind_first p s.order) step new.follows.known) safe));
   way = way_push p s.order step new.follows.known;
@@ -289,12 +292,12 @@ greatest_enters : (p : HeldRollout) (s : Position) (step : ℕ) (longer : Bool) 
 greatest_enters p s step false compared is new enters =
     greatest_stays p s.tested (set (way_state p s.order) step true) (order_behind_first p s.greatest) is.most (λ safe.
     let fewer = ltb-false (length s.greatest) (length (s.order ++ step ∷ [])) (sym compared) in
-    let count = ap done_count enters.way ∙ count_of p (s.order ++ step ∷ []) enters.line in
+    let count = ap done_count enters.way ∙ count_of p (s.order ++ step ∷ []) enters.beginning in
     let mine = length-append (first_steps p.rollout p.held) (s.order ++ step ∷ []) in
     let theirs = length-append (first_steps p.rollout p.held) s.greatest in
     omega (arith, fewer, count, mine, theirs))
 greatest_enters p s step true compared is new enters = record {
-  line = enters.line;
+  beginning = enters.beginning;
   rest = s.order ++ step ∷ [];
   begin = refl;
   between = All-push (λ k. kind_of_step p.rollout p.held k ≡ Between) s.order step is.between new.follows.between;
@@ -306,7 +309,7 @@ greatest_enters p s step true compared is new enters = record {
     | inr behind ↦
         let last : get_or (s.tested ++ marks ∷ []) i [] ≡ marks =
         get_or_at s.tested marks [] [] i (let count = length_push s.tested marks in omega (arith, count, within, behind)) in
-        let count = ap done_count (last ∙ enters.way) ∙ count_of p (s.order ++ step ∷ []) enters.line in
+        let count = ap done_count (last ∙ enters.way) ∙ count_of p (s.order ++ step ∷ []) enters.beginning in
         omega (arith, count)
   ];
   earliest = λ i before safe. fewer i before safe;
@@ -315,11 +318,11 @@ greatest_enters p s step true compared is new enters = record {
     marks : List Bool
     marks = set (way_state p s.order) step true
 
-    fewer : (i : ℕ) → i < length s.tested → IsSafe p.rollout p.held (is_done_in (get_or (s.tested ++ set (way_state p s.order) step true ∷ []) i [])) →
+    fewer : (i : ℕ) → i < length s.tested → IsSafe p.rollout p.held (is_marked (get_or (s.tested ++ set (way_state p s.order) step true ∷ []) i [])) →
         done_count (get_or (s.tested ++ set (way_state p s.order) step true ∷ []) i []) < length (order_behind_first p (s.order ++ step ∷ []))
     fewer i before safe =
         let at = get_or_append_left s.tested (set (way_state p s.order) step true ∷ []) [] i before in
-        let was = is.most.greatest i before (subst (λ (m : List Bool). IsSafe p.rollout p.held (is_done_in m)) at safe) in
+        let was = is.most.greatest i before (subst (λ (m : List Bool). IsSafe p.rollout p.held (is_marked m)) at safe) in
         let same = ap done_count at in
         let less = ltb-true (length s.greatest) (length (s.order ++ step ∷ [])) (sym compared) in
         let mine = length-append (first_steps p.rollout p.held) (s.order ++ step ∷ []) in
@@ -327,7 +330,7 @@ greatest_enters p s step true compared is new enters = record {
         omega (arith, was, same, less, mine, theirs)
 
 pub search_enters : (p : HeldRollout) (s : Position) (step : ℕ) → IsSearch p s → s.next ≡ step → IsNewStep p s.tested (way_state p s.order) step →
-    IsSafe p.rollout p.held (is_done_in (set (way_state p s.order) step true)) →
+    IsSafe p.rollout p.held (is_marked (set (way_state p s.order) step true)) →
     IsSearch p (record {
       order = s.order ++ step ∷ [];
       next = 0;
@@ -335,7 +338,7 @@ pub search_enters : (p : HeldRollout) (s : Position) (step : ℕ) → IsSearch p
       greatest = longer_of s.greatest (s.order ++ step ∷ []);
     })
 search_enters p s step is at new safe = record {
-  line = enters.line;
+  beginning = enters.beginning;
   between = All-push (λ k. kind_of_step p.rollout p.held k ≡ Between) s.order step is.between new.follows.between;
   are = push_are p s step is new;
   on_way = λ d within. elim (cases_lt (length s.order) d) [
@@ -389,18 +392,19 @@ pub search_backs : (p : HeldRollout) (s : Position) (order : List ℕ) (step : �
 search_backs p s order step is same end = search_moves p back (step + 1) whole
     (explored_more p s.tested (way_state p order) step
     (subst (λ (xs : List ℕ). IsExplored p s.tested (way_state p xs) step) (take_all (length order) order (omega arith))
-    (subst (λ (n : ℕ). IsExplored p s.tested (way_state p (take (length order) order)) n) (get_or_at order step [] 0 (length order) refl) (explored_at (length order) (omega arith))))
+    (subst (λ (n : ℕ). IsExplored p s.tested (way_state p (take (length order) order)) n) (get_or_at order step [] 0 (length order) refl)
+    (explored_at (length order) (omega arith))))
     (subst (λ (m : List Bool). Contains s.tested m) (ap (way_state p) same ∙ sym (way_push p order step known)) (top_tested p s is)))
   where
     back : Position
     back = record { order = order; next = step; tested = s.tested; greatest = s.greatest }
 
-    line : IsSafeLine p.rollout p.held (order_behind_first p order ++ step ∷ [])
-    line = subst (λ (xs : List ℕ). IsSafeLine p.rollout p.held xs) (ap (order_behind_first p) same ∙ line_push_is p order step) is.line
+    beginning : IsSafeBeginning p.rollout p.held (order_behind_first p order ++ step ∷ [])
+    beginning = subst (λ (xs : List ℕ). IsSafeBeginning p.rollout p.held xs) (ap (order_behind_first p) same ∙ beginning_push_is p order step) is.beginning
 
     known : step < step_count p.rollout
     known = subst (λ (k : ℕ). k < step_count p.rollout) (get_or_at (order_behind_first p order) step [] 0 (length (order_behind_first p order)) refl)
-        (line.known (length (order_behind_first p order)) 0 (let count = length_push (order_behind_first p order) step in omega (arith, count)))
+        (beginning.known (length (order_behind_first p order)) 0 (let count = length_push (order_behind_first p order) step in omega (arith, count)))
 
     longer : length s.order ≡ length order + 1
     longer = ap length same ∙ length_push order step
@@ -417,7 +421,7 @@ search_backs p s order step is same end = search_moves p back (step + 1) whole
 
     whole : IsSearch p back
     whole = record {
-      line = line_left p.rollout p.held (order_behind_first p order) (step ∷ []) line;
+      beginning = beginning_left p.rollout p.held (order_behind_first p order) (step ∷ []) beginning;
       between = All-left (λ k. kind_of_step p.rollout p.held k ≡ Between) order (step ∷ [])
           (subst (λ (xs : List ℕ). All (λ k. kind_of_step p.rollout p.held k ≡ Between) xs) same is.between);
       are = is.are;
@@ -460,9 +464,9 @@ another_reached p s step is new = record {
 
 -- what each tested safe state lacks stays, and a new one lacks something too where it is safe
 pub lack_push : (p : HeldRollout) (tested : List (List Bool)) (marks : List Bool) → AllLack p tested →
-    (IsSafe p.rollout p.held (is_done_in marks) → (k : ℕ) × MayFollow p.rollout p.held marks k) → AllLack p (tested ++ marks ∷ [])
+    (IsSafe p.rollout p.held (is_marked marks) → (k : ℕ) × MayFollow p.rollout p.held marks k) → AllLack p (tested ++ marks ∷ [])
 lack_push p tested marks lack here = λ m has safe. elim (Contains-push_cases tested marks m has) [
   | inl before ↦ lack m before safe
   | inr same ↦ subst (λ (n : List Bool). (k : ℕ) × MayFollow p.rollout p.held n k) same
-      (here (subst (λ (n : List Bool). IsSafe p.rollout p.held (is_done_in n)) (sym same) safe))
+      (here (subst (λ (n : List Bool). IsSafe p.rollout p.held (is_marked n)) (sym same) safe))
 ]

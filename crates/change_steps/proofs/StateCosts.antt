@@ -6,32 +6,20 @@ use Rattle.std.proofs.lemmas.List.{get_or_default, get_or_past}
 use Rattle.std.proofs.lemmas.List.Folds.{Any-from_list_any, list_any_at}
 use Rattle.cost_base.specs.Lists.{Has, numbers_from}
 use Rattle.cost_base.proofs.ListLemmas.{get_or-map-numbers_from, get_or-numbers_from, length-map-numbers_from, length-numbers_from, map-numbers_from-agree, same_test}
+use Rattle.cost_base.specs.Marks.{is_one_of}
+use Rattle.cost_base.proofs.MarkLaws.{has_one_of, one_of_has}
 use Rattle.area_graph.specs.declared.Price.{Price}
 use Rattle.area_graph.specs.declared.Price.TheVariants.{Fixed, Var, Zero}
 use Rattle.area_graph.specs.Area.{Area, edge_at}
 use Rattle.area_graph.specs.Costs.{FitsPoint, IsOnlyCheapest, IsPriced, at_costs, price_at}
 use Rattle.design_problem.specs.Problems.{request_at, request_ends}
 use Rattle.design_problem.specs.Rows.{is_var}
-use Rattle.change_steps.specs.Rollouts.{AreMoves, CostMoves, IsInterfaceCost, IsRollout, Rollout, lines_of_step}
-use Rattle.change_steps.specs.Orders.{IsOnlyIn, IsSafe, cost_in, costs_in, is_changed, is_one_of}
+use Rattle.change_steps.specs.Rollouts.{AreMoves, CostMoves, IsInterfaceCost, IsRollout, Rollout, variables_of_step}
+use Rattle.change_steps.specs.Orders.{IsOnlyIn, IsSafe, cost_in, costs_in, is_changed}
 use Rattle.change_steps.specs.Kinds.{goes_over}
 use Rattle.change_steps.proofs.Keeping.{only_kept}
 
 -- Tests and what they tell.
-
-pub one_of_has : (xs : List ℕ) (x : ℕ) → is_one_of xs x ≡ true → Has xs x
-one_of_has [] x is = absurd (false≢true is)
-one_of_has (y ∷ ys) x is = elim (or_cases (y == x) (is_one_of ys x) is) [
-  | inl here ↦ inl (sym (eqb-true y x here))
-  | inr later ↦ inr (one_of_has ys x later)
-]
-
-pub has_one_of : (xs : List ℕ) (x : ℕ) → Has xs x → is_one_of xs x ≡ true
-has_one_of [] x has = absurd has
-has_one_of (y ∷ ys) x has = elim has [
-  | inl here ↦ or_left (y == x) (is_one_of ys x) (eq-eqb y x (sym here))
-  | inr later ↦ or_right (y == x) (is_one_of ys x) (has_one_of ys x later)
-]
 
 -- a test that some number below n passes
 pub passed_below : (p : ℕ → Bool) (n : ℕ) → list_any p (numbers_from 0 n) ≡ true → (k : ℕ) × (k < n) × (p k ≡ true)
@@ -48,23 +36,23 @@ passes_below p n k within passes =
 
 -- a variable is changed exactly where a step that is done has it
 pub changed_by : (m : CostMoves) (done : ℕ → Bool) (v : ℕ) → is_changed m done v ≡ true →
-    (k : ℕ) × (k < length m.steps) × (done k ≡ true) × Has (lines_of_step m k) v
+    (k : ℕ) × (k < length m.steps) × (done k ≡ true) × Has (variables_of_step m k) v
 unfolding is_changed
 changed_by m done v changed =
-    let by = passed_below (λ k. done k && is_one_of (lines_of_step m k) v) (length m.steps) changed in
-    let parts = and_parts (done by.0) (is_one_of (lines_of_step m by.0) v) by.2 in
-    (by.0, by.1, parts.0, one_of_has (lines_of_step m by.0) v parts.1)
+    let by = passed_below (λ k. done k && is_one_of (variables_of_step m k) v) (length m.steps) changed in
+    let parts = and_parts (done by.0) (is_one_of (variables_of_step m by.0) v) by.2 in
+    (by.0, by.1, parts.0, one_of_has (variables_of_step m by.0) v parts.1)
 
-pub changed_if : (m : CostMoves) (done : ℕ → Bool) (v k : ℕ) → k < length m.steps → done k ≡ true → Has (lines_of_step m k) v →
+pub changed_if : (m : CostMoves) (done : ℕ → Bool) (v k : ℕ) → k < length m.steps → done k ≡ true → Has (variables_of_step m k) v →
     is_changed m done v ≡ true
 unfolding is_changed
 changed_if m done v k within is has =
-    passes_below (λ i. done i && is_one_of (lines_of_step m i) v) (length m.steps) k within
-    (and_from (done k) (is_one_of (lines_of_step m k) v) is (has_one_of (lines_of_step m k) v has))
+    passes_below (λ i. done i && is_one_of (variables_of_step m i) v) (length m.steps) k within
+    (and_from (done k) (is_one_of (variables_of_step m k) v) is (has_one_of (variables_of_step m k) v has))
 
 -- a state that has each step of another one changes what that changes
 pub changes_more : (m : CostMoves) (f g : ℕ → Bool) (v : ℕ) →
-    ((k : ℕ) → k < length m.steps → f k ≡ true → Has (lines_of_step m k) v → g k ≡ true) → is_changed m f v ≡ true → is_changed m g v ≡ true
+    ((k : ℕ) → k < length m.steps → f k ≡ true → Has (variables_of_step m k) v → g k ≡ true) → is_changed m f v ≡ true → is_changed m g v ≡ true
 changes_more m f g v more changed =
     let by = changed_by m f v changed in
     changed_if m g v by.0 by.1 (more by.0 by.1 by.2 by.3) by.3
@@ -101,7 +89,7 @@ costs_agree m f g agree = costs_alike m f g (λ v. same_test (is_changed m f v) 
 
 pub only_agree : (r : Rollout) (f g : ℕ → Bool) (k : ℕ) → ((i : ℕ) → i < length r.moves.steps → f i ≡ g i) → IsOnlyIn r f k → IsOnlyIn r g k
 only_agree r f g k agree only = subst (λ (ws : List ℕ).
-    IsOnlyCheapest r.graph (at_costs ws) (request_ends (request_at r.paths k)) (request_at r.paths k).path.edges)
+    IsOnlyCheapest r.graph (at_costs ws) (request_ends (request_at r.requests k)) (request_at r.requests k).path.edges)
     (costs_agree r.moves f g agree) only
 
 pub safe_agree : (r : Rollout) (held : List ℕ) (f g : ℕ → Bool) → ((i : ℕ) → i < length r.moves.steps → f i ≡ g i) →
@@ -176,16 +164,16 @@ costs_le m f g v less = elim (cases_lt v (length m.present)) [
       omega (arith, mine, theirs)
 ]
 
--- in another state the path of a request stays the only cheapest where the costs of its variables don't rise, and those of
--- edges off it don't fall
+-- in another state the path of a request stays the only cheapest where the costs of its variables don't rise, and those
+-- of edges off it don't fall
 pub only_by_costs : (r : Rollout) (f g : ℕ → Bool) (k : ℕ) → IsRollout r → IsOnlyIn r f k →
-    ((v : ℕ) → goes_over r.graph (request_at r.paths k).path.edges v ≡ true → cost_in r.moves g v ≤ cost_in r.moves f v) →
-    ((e v : ℕ) → e < length r.graph.edges → (Has (request_at r.paths k).path.edges e → ⊥) → (edge_at r.graph e).price ≡ Var v →
+    ((v : ℕ) → goes_over r.graph (request_at r.requests k).path.edges v ≡ true → cost_in r.moves g v ≤ cost_in r.moves f v) →
+    ((e v : ℕ) → e < length r.graph.edges → (Has (request_at r.requests k).path.edges e → ⊥) → (edge_at r.graph e).price ≡ Var v →
     cost_in r.moves f v ≤ cost_in r.moves g v) → IsOnlyIn r g k
 only_by_costs r f g k is only on off =
-    only_kept r.graph (at_costs (costs_in r.moves f)) (at_costs (costs_in r.moves g)) (request_ends (request_at r.paths k))
-    (request_at r.paths k).path.edges only
+    only_kept r.graph (at_costs (costs_in r.moves f)) (at_costs (costs_in r.moves g)) (request_ends (request_at r.requests k))
+    (request_at r.requests k).path.edges only
     (λ e has. price_le (costs_in r.moves g) (costs_in r.moves f) (edge_at r.graph e).price
-    (λ v price. costs_le r.moves g f v (on v (goes_if r.graph (request_at r.paths k).path.edges e v has price))))
+    (λ v price. costs_le r.moves g f v (on v (goes_if r.graph (request_at r.requests k).path.edges e v has price))))
     (λ e known away. price_le (costs_in r.moves f) (costs_in r.moves g) (edge_at r.graph e).price
     (λ v price. costs_le r.moves f g v (off e v known away price)))

@@ -8,55 +8,59 @@ use Rattle.cost_base.specs.Lists.{Has}
 use Rattle.area_graph.specs.declared.Point.{Point}
 use Rattle.area_graph.specs.Area.{Area}
 use Rattle.area_graph.specs.Costs.{FitsPoint, at_costs}
-use Rattle.change_steps.specs.Rollouts.{CostMoves, IsRollout, Rollout, lines_of_step, step_count}
-use Rattle.change_steps.specs.Orders.{all_done, cost_in, costs_in, is_changed, is_one_of}
-use Rattle.change_steps.specs.States.{is_done_in, marks_of}
+use Rattle.change_steps.specs.Rollouts.{CostMoves, IsRollout, Rollout, variables_of_step, step_count}
+use Rattle.change_steps.specs.Orders.{all_done, cost_in, costs_in, is_changed}
+use Rattle.change_steps.specs.States.{marks_of}
 use Rattle.change_steps.specs.Search.{HasMore}
-use Rattle.change_steps.proofs.StateCosts.{changed_by, changed_if, changes_more, cost_at, cost_changed, cost_left, has_one_of, length-costs_in, one_of_has, state_fits}
+use Rattle.change_steps.proofs.StateCosts.{changed_by, changed_if, changes_more, cost_at, cost_changed, cost_left, length-costs_in, state_fits}
 use Rattle.change_steps.proofs.KindLaws.{same_change}
 use Rattle.change_steps.proofs.MarkLaws.{marks_agree, marks_more, marks_push}
 use Rattle.cost_base.proofs.ListLemmas.{same_test}
+use Rattle.cost_base.specs.Marks.{is_marked, is_one_of}
+use Rattle.cost_base.proofs.MarkLaws.{has_one_of, one_of_has}
 
--- the lines of a step have costs
-pub lines_known : (r : Rollout) (step : ℕ) → IsRollout r → step < step_count r → All (λ v. v < length r.moves.present) (lines_of_step r.moves step)
-lines_known r step is known = is.moves.known step [] known
+-- the variables of a step have costs
+pub variables_known : (r : Rollout) (step : ℕ) → IsRollout r → step < step_count r → All (λ v. v < length r.moves.present) (variables_of_step r.moves step)
+variables_known r step is known = is.moves.known step [] known
 
 pub point_is : (scale : ℕ) (values costs : List ℕ) → scale ≡ 1 → values ≡ costs → record { scale = scale; values = values } ≡ at_costs costs
 point_is scale values costs one same = ap (λ (n : ℕ). let p : Point = record { scale = n; values = values } in p) one ∙ ap (λ (ws : List ℕ). at_costs ws) same
 
 -- the point of a state fits the graph
-pub point_fits : (r : Rollout) (g : Area) (marks : List Bool) (p : Point) → IsRollout r → g ≡ r.graph → p ≡ at_costs (costs_in r.moves (is_done_in marks)) → FitsPoint g p
+pub point_fits : (r : Rollout) (g : Area) (marks : List Bool) (p : Point) → IsRollout r → g ≡ r.graph → p ≡ at_costs (costs_in r.moves (is_marked marks)) →
+    FitsPoint g p
 point_fits r g marks p is graph same =
-    subst (λ (h : Area). FitsPoint h p) (sym graph) (subst (λ (q : Point). FitsPoint r.graph q) (sym same) (state_fits r (is_done_in marks) is))
+    subst (λ (h : Area). FitsPoint h p) (sym graph) (subst (λ (q : Point). FitsPoint r.graph q) (sym same) (state_fits r (is_marked marks) is))
 
--- Costs are put line by line.
+-- Costs are put variable by variable.
 
--- the variables of the first lines have these costs, and the others are as they were
-pub record ArePut (olds lines costs : List ℕ) (i : ℕ) (news : List ℕ) : Type 0 where
+-- the first of the variables have these costs, and the others are as they were
+pub record ArePut (olds variables costs : List ℕ) (i : ℕ) (news : List ℕ) : Type 0 where
   pub count : length news ≡ length olds
-  pub put : (v : ℕ) → get_or news v 0 ≡ cond (is_one_of (take i lines) v) (get_or costs v 0) (get_or olds v 0)
+  pub put : (v : ℕ) → get_or news v 0 ≡ cond (is_one_of (take i variables) v) (get_or costs v 0) (get_or olds v 0)
 
-pub put_more : (olds mids news lines costs : List ℕ) (i : ℕ) → i < length lines → get_or lines i 0 < length mids → ArePut olds lines costs i mids →
-    news ≡ set mids (get_or lines i 0) (get_or costs (get_or lines i 0) 0) → ArePut olds lines costs (i + 1) news
-put_more olds mids news lines costs i within known are is = record {
-  count = ap length is ∙ length-set mids (get_or lines i 0) (get_or costs (get_or lines i 0) 0) ∙ are.count;
-  put = λ v. ap (λ (xs : List ℕ). get_or xs v 0) is ∙ elim (cases_eq v (get_or lines i 0)) [
+pub put_more : (olds mids news variables costs : List ℕ) (i : ℕ) → i < length variables → get_or variables i 0 < length mids →
+    ArePut olds variables costs i mids →
+    news ≡ set mids (get_or variables i 0) (get_or costs (get_or variables i 0) 0) → ArePut olds variables costs (i + 1) news
+put_more olds mids news variables costs i within known are is = record {
+  count = ap length is ∙ length-set mids (get_or variables i 0) (get_or costs (get_or variables i 0) 0) ∙ are.count;
+  put = λ v. ap (λ (xs : List ℕ). get_or xs v 0) is ∙ elim (cases_eq v (get_or variables i 0)) [
     | inl same ↦
-        ap (λ (k : ℕ). get_or (set mids (get_or lines i 0) (get_or costs (get_or lines i 0) 0)) k 0) same
-        ∙ get_or-set_same mids (get_or lines i 0) (get_or costs (get_or lines i 0) 0) 0 known
+        ap (λ (k : ℕ). get_or (set mids (get_or variables i 0) (get_or costs (get_or variables i 0) 0)) k 0) same
+        ∙ get_or-set_same mids (get_or variables i 0) (get_or costs (get_or variables i 0) 0) 0 known
         ∙ ap (λ (k : ℕ). get_or costs k 0) (sym same)
-        ∙ sym (cond-true (is_one_of (take (i + 1) lines) v) (get_or costs v 0) (get_or olds v 0)
-        (more v ∙ or_right (is_one_of (take i lines) v) (get_or lines i 0 == v) (eq-eqb (get_or lines i 0) v (sym same))))
+        ∙ sym (cond-true (is_one_of (take (i + 1) variables) v) (get_or costs v 0) (get_or olds v 0)
+        (more v ∙ or_right (is_one_of (take i variables) v) (get_or variables i 0 == v) (eq-eqb (get_or variables i 0) v (sym same))))
     | inr other ↦
-        get_or-set_other mids (get_or lines i 0) v (get_or costs (get_or lines i 0) 0) 0 other ∙ are.put v
+        get_or-set_other mids (get_or variables i 0) v (get_or costs (get_or variables i 0) 0) 0 other ∙ are.put v
         ∙ ap (λ (b : Bool). cond b (get_or costs v 0) (get_or olds v 0)) (sym (more v
-        ∙ ap (λ (b : Bool). is_one_of (take i lines) v || b) (ne_eqb (get_or lines i 0) v (λ same. other (sym same)))
-        ∙ or-false (is_one_of (take i lines) v)))
+        ∙ ap (λ (b : Bool). is_one_of (take i variables) v || b) (ne_eqb (get_or variables i 0) v (λ same. other (sym same)))
+        ∙ or-false (is_one_of (take i variables) v)))
   ];
 }
   where
-    more : (v : ℕ) → is_one_of (take (i + 1) lines) v ≡ (is_one_of (take i lines) v || (get_or lines i 0 == v))
-    more v = list_any_more (λ y. y == v) lines i 0 within
+    more : (v : ℕ) → is_one_of (take (i + 1) variables) v ≡ (is_one_of (take i variables) v || (get_or variables i 0 == v))
+    more v = list_any_more (λ y. y == v) variables i 0 within
 
 -- At present.
 
@@ -70,7 +74,7 @@ none_costs m f none = ext_get_or 0 (costs_in m f) m.present (length-costs_in m f
 -- A step is done.
 
 pub set_more : (r : Rollout) (marks : List Bool) (step : ℕ) → step < step_count r → length marks ≡ step_count r →
-    HasMore r (is_done_in marks) (is_done_in (set marks step true)) step
+    HasMore r (is_marked marks) (is_marked (set marks step true)) step
 set_more r marks step known count = record {
   known = known;
   done = get_or-set_same marks step true false (omega (arith, count, known));
@@ -83,75 +87,77 @@ alike m f g v same = elim (cases_Bool (is_changed m g v)) [
   | inr left ↦ cost_left m f v (same ∙ left) ∙ sym (cost_left m g v left)
 ]
 
-pub do_costs : (r : Rollout) (marks : List Bool) (values old wanted lines : List ℕ) (step : ℕ) → step < step_count r →
-    length marks ≡ step_count r → old ≡ costs_in r.moves (is_done_in marks) → lines ≡ lines_of_step r.moves step → wanted ≡ r.moves.wanted →
-    length values ≡ length old → ((v : ℕ) → get_or values v 0 ≡ cond (is_one_of lines v) (get_or wanted v 0) (get_or old v 0)) →
-    values ≡ costs_in r.moves (is_done_in (set marks step true))
-do_costs r marks values old wanted lines step known count old_is lines_are wanted_are as_long put =
+pub do_costs : (r : Rollout) (marks : List Bool) (values old wanted variables : List ℕ) (step : ℕ) → step < step_count r →
+    length marks ≡ step_count r → old ≡ costs_in r.moves (is_marked marks) → variables ≡ variables_of_step r.moves step → wanted ≡ r.moves.wanted →
+    length values ≡ length old → ((v : ℕ) → get_or values v 0 ≡ cond (is_one_of variables v) (get_or wanted v 0) (get_or old v 0)) →
+    values ≡ costs_in r.moves (is_marked (set marks step true))
+do_costs r marks values old wanted variables step known count old_is variables_are wanted_are as_long put =
     ext_get_or 0 values (costs_in r.moves more) (length_is ∙ sym (length-costs_in r.moves more)) (λ v within.
     let near : v < length r.moves.present = omega (arith, length_is, within) in
-    elim (cases_Bool (is_one_of lines v)) [
+    elim (cases_Bool (is_one_of variables v)) [
       | inl has ↦
-          put v ∙ cond-true (is_one_of lines v) (get_or wanted v 0) (get_or old v 0) has ∙ ap (λ (ws : List ℕ). get_or ws v 0) wanted_are
+          put v ∙ cond-true (is_one_of variables v) (get_or wanted v 0) (get_or old v 0) has ∙ ap (λ (ws : List ℕ). get_or ws v 0) wanted_are
           ∙ sym (cost_at r.moves more v near ∙ cost_changed r.moves more v (changed_if r.moves more v step known (set_more r marks step known count).done
-          (subst (λ (xs : List ℕ). Has xs v) lines_are (one_of_has lines v has))))
+          (subst (λ (xs : List ℕ). Has xs v) variables_are (one_of_has variables v has))))
       | inr lacks ↦
-          put v ∙ cond-false (is_one_of lines v) (get_or wanted v 0) (get_or old v 0) lacks ∙ ap (λ (ws : List ℕ). get_or ws v 0) old_is
-          ∙ cost_at r.moves (is_done_in marks) v near
-          ∙ alike r.moves (is_done_in marks) more v (same_change r (is_done_in marks) more step v (set_more r marks step known count)
-          (λ has. both_ways (is_one_of lines v) lacks (has_one_of lines v (subst (λ (xs : List ℕ). Has xs v) (sym lines_are) has))))
+          put v ∙ cond-false (is_one_of variables v) (get_or wanted v 0) (get_or old v 0) lacks ∙ ap (λ (ws : List ℕ). get_or ws v 0) old_is
+          ∙ cost_at r.moves (is_marked marks) v near
+          ∙ alike r.moves (is_marked marks) more v (same_change r (is_marked marks) more step v (set_more r marks step known count)
+          (λ has. both_ways (is_one_of variables v) lacks (has_one_of variables v (subst (λ (xs : List ℕ). Has xs v) (sym variables_are) has))))
           ∙ sym (cost_at r.moves more v near)
     ])
   where
     more : ℕ → Bool
-    more = is_done_in (set marks step true)
+    more = is_marked (set marks step true)
 
     length_is : length values ≡ length r.moves.present
-    length_is = as_long ∙ ap length old_is ∙ length-costs_in r.moves (is_done_in marks)
+    length_is = as_long ∙ ap length old_is ∙ length-costs_in r.moves (is_marked marks)
 
 -- A step is taken back.
 
-pub undo_costs : (r : Rollout) (marks : List Bool) (values old present lines : List ℕ) (step : ℕ) → IsRollout r → step < step_count r →
-    length marks ≡ step_count r → old ≡ costs_in r.moves (is_done_in marks) → lines ≡ lines_of_step r.moves step → present ≡ r.moves.present →
-    length values ≡ length old → ((v : ℕ) → get_or values v 0 ≡ cond (is_one_of lines v) (get_or present v 0) (get_or old v 0)) →
-    values ≡ costs_in r.moves (is_done_in (set marks step false))
-undo_costs r marks values old present lines step is known count old_is lines_are present_are as_long put =
+pub undo_costs : (r : Rollout) (marks : List Bool) (values old present variables : List ℕ) (step : ℕ) → IsRollout r → step < step_count r →
+    length marks ≡ step_count r → old ≡ costs_in r.moves (is_marked marks) → variables ≡ variables_of_step r.moves step → present ≡ r.moves.present →
+    length values ≡ length old → ((v : ℕ) → get_or values v 0 ≡ cond (is_one_of variables v) (get_or present v 0) (get_or old v 0)) →
+    values ≡ costs_in r.moves (is_marked (set marks step false))
+undo_costs r marks values old present variables step is known count old_is variables_are present_are as_long put =
     ext_get_or 0 values (costs_in r.moves less) (length_is ∙ sym (length-costs_in r.moves less)) (λ v within.
     let near : v < length r.moves.present = omega (arith, length_is, within) in
-    elim (cases_Bool (is_one_of lines v)) [
+    elim (cases_Bool (is_one_of variables v)) [
       | inl has ↦
-          put v ∙ cond-true (is_one_of lines v) (get_or present v 0) (get_or old v 0) has ∙ ap (λ (ws : List ℕ). get_or ws v 0) present_are
-          ∙ sym (cost_at r.moves less v near ∙ cost_left r.moves less v (left v (subst (λ (xs : List ℕ). Has xs v) lines_are (one_of_has lines v has))))
+          put v ∙ cond-true (is_one_of variables v) (get_or present v 0) (get_or old v 0) has ∙ ap (λ (ws : List ℕ). get_or ws v 0) present_are
+          ∙ sym (cost_at r.moves less v near ∙ cost_left r.moves less v (left v (subst (λ (xs : List ℕ). Has xs v) variables_are (one_of_has variables v has))))
       | inr lacks ↦
-          put v ∙ cond-false (is_one_of lines v) (get_or present v 0) (get_or old v 0) lacks ∙ ap (λ (ws : List ℕ). get_or ws v 0) old_is
-          ∙ cost_at r.moves (is_done_in marks) v near
-          ∙ alike r.moves (is_done_in marks) less v (same v (λ has. both_ways (is_one_of lines v) lacks (has_one_of lines v (subst (λ (xs : List ℕ). Has xs v) (sym lines_are) has))))
+          put v ∙ cond-false (is_one_of variables v) (get_or present v 0) (get_or old v 0) lacks ∙ ap (λ (ws : List ℕ). get_or ws v 0) old_is
+          ∙ cost_at r.moves (is_marked marks) v near
+          ∙ alike r.moves (is_marked marks) less v (same v (λ has. both_ways (is_one_of variables v) lacks
+          (has_one_of variables v (subst (λ (xs : List ℕ). Has xs v) (sym variables_are) has))))
           ∙ sym (cost_at r.moves less v near)
     ])
   where
     less : ℕ → Bool
-    less = is_done_in (set marks step false)
+    less = is_marked (set marks step false)
 
     length_is : length values ≡ length r.moves.present
-    length_is = as_long ∙ ap length old_is ∙ length-costs_in r.moves (is_done_in marks)
+    length_is = as_long ∙ ap length old_is ∙ length-costs_in r.moves (is_marked marks)
 
-    undone : is_done_in (set marks step false) step ≡ false
+    undone : is_marked (set marks step false) step ≡ false
     undone = get_or-set_same marks step false false (omega (arith, count, known))
 
-    left : (v : ℕ) → Has (lines_of_step r.moves step) v → is_changed r.moves (is_done_in (set marks step false)) v ≡ false
-    left v has = false_from_ne_true (is_changed r.moves (is_done_in (set marks step false)) v) (λ changed.
-        let by = changed_by r.moves (is_done_in (set marks step false)) v changed in
-        both_ways (is_done_in (set marks step false) by.0) (ap (is_done_in (set marks step false)) (is.moves.once by.0 step v by.3 has) ∙ undone) by.2)
+    left : (v : ℕ) → Has (variables_of_step r.moves step) v → is_changed r.moves (is_marked (set marks step false)) v ≡ false
+    left v has = false_from_ne_true (is_changed r.moves (is_marked (set marks step false)) v) (λ changed.
+        let by = changed_by r.moves (is_marked (set marks step false)) v changed in
+        both_ways (is_marked (set marks step false) by.0) (ap (is_marked (set marks step false)) (is.moves.once by.0 step v by.3 has) ∙ undone) by.2)
 
-    others : (k : ℕ) → k ≢ step → is_done_in (set marks step false) k ≡ is_done_in marks k
+    others : (k : ℕ) → k ≢ step → is_marked (set marks step false) k ≡ is_marked marks k
     others k other = get_or-set_other marks step k false false other
 
-    same : (v : ℕ) → (Has (lines_of_step r.moves step) v → ⊥) → is_changed r.moves (is_done_in marks) v ≡ is_changed r.moves (is_done_in (set marks step false)) v
-    same v away = same_test (is_changed r.moves (is_done_in marks) v) (is_changed r.moves (is_done_in (set marks step false)) v)
-        (changes_more r.moves (is_done_in marks) (is_done_in (set marks step false)) v (λ k within done has.
-        others k (λ at. away (subst (λ (i : ℕ). Has (lines_of_step r.moves i) v) at has)) ∙ done))
-        (changes_more r.moves (is_done_in (set marks step false)) (is_done_in marks) v (λ k within done has.
-        sym (others k (λ at. away (subst (λ (i : ℕ). Has (lines_of_step r.moves i) v) at has))) ∙ done))
+    same : (v : ℕ) → (Has (variables_of_step r.moves step) v → ⊥) →
+        is_changed r.moves (is_marked marks) v ≡ is_changed r.moves (is_marked (set marks step false)) v
+    same v away = same_test (is_changed r.moves (is_marked marks) v) (is_changed r.moves (is_marked (set marks step false)) v)
+        (changes_more r.moves (is_marked marks) (is_marked (set marks step false)) v (λ k within done has.
+        others k (λ at. away (subst (λ (i : ℕ). Has (variables_of_step r.moves i) v) at has)) ∙ done))
+        (changes_more r.moves (is_marked (set marks step false)) (is_marked marks) v (λ k within done has.
+        sym (others k (λ at. away (subst (λ (i : ℕ). Has (variables_of_step r.moves i) v) at has))) ∙ done))
 
 -- Steps one after another.
 

@@ -31,14 +31,16 @@ contains_any xs marks has =
 abbrev pub items_of : Vec Bool Global → List Bool
 items_of v = v.items
 
-pub has_state : (keys : List (Vec Bool Global)) (marks : List Bool) → list_any (λ (v : Vec Bool Global). pointwise beq marks v.items) keys ≡ true ↔ Contains (map items_of keys) marks
+pub has_state : (keys : List (Vec Bool Global)) (marks : List Bool) →
+    list_any (λ (v : Vec Bool Global). pointwise beq marks v.items) keys ≡ true ↔ Contains (map items_of keys) marks
 has_state keys marks = (
   λ any. any_contains (map items_of keys) marks (list_any-map (pointwise beq marks) items_of keys ∙ any),
   λ has. sym (list_any-map (pointwise beq marks) items_of keys) ∙ contains_any (map items_of keys) marks has,
 )
 
 pub state_added : (keys new : List (Vec Bool Global)) (v : Vec Bool Global) (marks : List Bool) → v.items ≡ marks → (Contains (map items_of keys) marks → ⊥) →
-    new ≡ cond (list_any (λ (w : Vec Bool Global). pointwise beq v.items w.items) keys) keys (keys ++ v ∷ []) → map items_of new ≡ map items_of keys ++ marks ∷ []
+    new ≡ cond (list_any (λ (w : Vec Bool Global). pointwise beq v.items w.items) keys) keys (keys ++ v ∷ []) →
+    map items_of new ≡ map items_of keys ++ marks ∷ []
 state_added keys new v marks same lacks is =
     ap (map items_of) (is ∙ cond-false (list_any (λ (w : Vec Bool Global). pointwise beq v.items w.items) keys) keys (keys ++ v ∷ [])
     (false_from_ne_true (list_any (λ (w : Vec Bool Global). pointwise beq v.items w.items) keys)

@@ -7,7 +7,7 @@ use Rattle.design_problem.specs.Problems.{request_at}
 use Rattle.design_problem.specs.Rows.{is_var}
 use Rattle.change_steps.specs.declared.kinds.Kind.{Kind}
 use Rattle.change_steps.specs.declared.kinds.Kind.TheVariants.{First, Between, Last}
-use Rattle.change_steps.specs.Rollouts.{CostMoves, Rollout, lines_of_step, step_count}
+use Rattle.change_steps.specs.Rollouts.{CostMoves, Rollout, variables_of_step, step_count}
 
 -- the wanted cost is greater than the present one
 abbrev pub rises : CostMoves → ℕ → Bool
@@ -19,21 +19,21 @@ goes_over g es v = list_any (λ e. is_var v (edge_at g e).price) es
 
 -- the variable lies on a held path
 unfoldable pub lies_on_held : Rollout → List ℕ → ℕ → Bool
-lies_on_held r held v = list_any (λ k. goes_over r.graph (request_at r.paths k).path.edges v) held
+lies_on_held r held v = list_any (λ k. goes_over r.graph (request_at r.requests k).path.edges v) held
 
--- the line rises, off the held paths
+-- the variable rises, off the held paths
 abbrev pub rises_off_held : Rollout → List ℕ → ℕ → Bool
 rises_off_held r held v = rises r.moves v && not (lies_on_held r held v)
 
--- the line falls, off the held paths
+-- the variable falls, off the held paths
 abbrev pub falls_off_held : Rollout → List ℕ → ℕ → Bool
 falls_off_held r held v = not (rises r.moves v) && not (lies_on_held r held v)
 
--- first where all lines of the step rise off the held paths, last where all fall off them, and else between
+-- first where all variables of the step rise off the held paths, last where all fall off them, and else between
 unfoldable pub kind_of_step : Rollout → List ℕ → ℕ → Kind
 kind_of_step r held k =
-    if list_all (rises_off_held r held) (lines_of_step r.moves k) then First
-    else (if list_all (falls_off_held r held) (lines_of_step r.moves k) then Last else Between)
+    if list_all (rises_off_held r held) (variables_of_step r.moves k) then First
+    else (if list_all (falls_off_held r held) (variables_of_step r.moves k) then Last else Between)
 
 -- whether a step of that kind is tried before all others
 abbrev pub comes_first : Kind → Bool

@@ -1,6 +1,7 @@
 -- What is found of a rollout's steps.
 use Rattle.std.specs.Prelude.{◌≡◌, ℕ, ◌<◌, ◌≤◌, ◌^◌, max, ◌&&◌, ◌++◌, ◌∷◌, Bool, true, not, List, [], length, map, filter, slice_index_or, slice_set, All, Contains, count_by}
 use Rattle.cost_base.specs.Lists.{numbers_from}
+use Rattle.cost_base.specs.Marks.{is_marked, is_one_of}
 use Rattle.change_steps.specs.declared.found.Barrier.{Barrier}
 use Rattle.change_steps.specs.declared.found.Barrier.TheVariants.{Path, Untested}
 use Rattle.change_steps.specs.declared.found.Blocked.{Blocked}
@@ -10,27 +11,27 @@ use Rattle.change_steps.specs.declared.found.Outcome.TheVariants.{Order, NoOrder
 use Rattle.change_steps.specs.declared.found.Steps.{Steps}
 use Rattle.change_steps.specs.declared.kinds.Kind.TheVariants.{Between}
 use Rattle.change_steps.specs.Rollouts.{Rollout, step_count}
-use Rattle.change_steps.specs.Orders.{IsOnlyIn, IsSafe, IsSafeLine, IsSafeOrder, AreHeld, is_one_of}
+use Rattle.change_steps.specs.Orders.{IsOnlyIn, IsSafe, IsSafeBeginning, IsSafeOrder, AreHeld}
 use Rattle.change_steps.specs.Kinds.{first_steps, comes_between, kind_of_step, steps_between}
-use Rattle.change_steps.specs.States.{AreTested, AreAllReached, IsAnotherReached, MayFollow, is_done_in, marks_of}
+use Rattle.change_steps.specs.States.{AreTested, AreAllReached, IsAnotherReached, MayFollow, marks_of}
 
 -- how many steps are done in a state
 abbrev pub done_count : List Bool → ℕ
 done_count marks = count_by (λ done. done) marks
 
--- steps that can be done safely one after another, the first steps first and then some between: their state is the first
--- of the greatest safe states that were tested
+-- steps that can be done safely one after another, the first steps first and then some between: their state is the
+-- first of the greatest safe states that were tested
 pub record IsGreatest (r : Rollout) (held : List ℕ) (tested : List (List Bool)) (done : List ℕ) : Type 0 where
-  pub line : IsSafeLine r held done
+  pub beginning : IsSafeBeginning r held done
   pub rest : List ℕ
   pub begin : done ≡ first_steps r held ++ rest
   pub between : All (λ k. kind_of_step r held k ≡ Between) rest
   pub place : ℕ
   pub within : place < length tested
   pub same : slice_index_or tested place [] ≡ marks_of r (is_one_of done)
-  pub greatest : (i : ℕ) → i < length tested → IsSafe r held (is_done_in (slice_index_or tested i [])) →
+  pub greatest : (i : ℕ) → i < length tested → IsSafe r held (is_marked (slice_index_or tested i [])) →
       done_count (slice_index_or tested i []) ≤ length done
-  pub earliest : (i : ℕ) → i < place → IsSafe r held (is_done_in (slice_index_or tested i [])) →
+  pub earliest : (i : ℕ) → i < place → IsSafe r held (is_marked (slice_index_or tested i [])) →
       done_count (slice_index_or tested i []) < length done
 
 -- the first held path that isn't the only cheapest in a state
@@ -43,7 +44,7 @@ pub record IsFirstLost (r : Rollout) (held : List ℕ) (done : ℕ → Bool) (pa
 
 -- why a state isn't among those to go on from: it was tested and loses a held path, or it wasn't tested
 abbrev pub IsBarrier : Rollout → List ℕ → List (List Bool) → List Bool → Barrier → Type 0
-IsBarrier r held tested marks (Path path) = Contains tested marks × IsFirstLost r held (is_done_in marks) path
+IsBarrier r held tested marks (Path path) = Contains tested marks × IsFirstLost r held (is_marked marks) path
 IsBarrier r held tested marks Untested = Contains tested marks → ⊥
 
 -- what is in the way of the steps between that aren't done, in order, each after the steps that are done
@@ -70,7 +71,7 @@ pub record HasNoOrder (r : Rollout) (held : List ℕ) (nodes : ℕ) (stuck : Stu
 pub record IsStateBudgetUsedUp (r : Rollout) (held : List ℕ) (nodes : ℕ) (stuck : Stuck) : Type 0 where
   pub tested : List (List Bool)
   pub are : AreTested r held tested
-  pub incomplete : (i : ℕ) → i < length tested → IsSafe r held (is_done_in (slice_index_or tested i [])) →
+  pub incomplete : (i : ℕ) → i < length tested → IsSafe r held (is_marked (slice_index_or tested i [])) →
       (k : ℕ) × MayFollow r held (slice_index_or tested i []) k
   pub used_up : length tested ≡ max 1 nodes
   pub another : IsAnotherReached r held tested

@@ -1,6 +1,7 @@
 -- What rivals cost at least that go over the links of a step. No public clause cites it.
 use Rattle.std.specs.Prelude.{◌≡◌, ℕ, nat_lt, ◌<◌, ◌≤◌, ◌⊎◌, Bool, true, false, cond, List, [], filter, length, map, slice_index, slice_index_or}
 use Rattle.cost_base.specs.Lists.{Has, numbers_from}
+use Rattle.cost_base.specs.Marks.{is_one_of}
 use Rattle.area_graph.specs.declared.Point.{Point}
 use Rattle.area_graph.specs.declared.Price.{Price}
 use Rattle.area_graph.specs.declared.Price.TheVariants.{Fixed, Var, Zero}
@@ -9,15 +10,15 @@ use Rattle.area_graph.specs.Paths.{IsPathOf}
 use Rattle.area_graph.specs.Costs.{at_costs, cost}
 use Rattle.design_problem.specs.Problems.{request_at, request_ends}
 use Rattle.change_steps.specs.declared.reach.Reach.{Reach}
-use Rattle.change_steps.specs.Rollouts.{CostMoves, Rollout, lines_of_step, step_count}
-use Rattle.change_steps.specs.Orders.{costs_in, is_one_of}
+use Rattle.change_steps.specs.Rollouts.{CostMoves, Rollout, variables_of_step, step_count}
+use Rattle.change_steps.specs.Orders.{costs_in}
 use Rattle.change_steps.specs.Kinds.{rises}
 
 -- the price is the cost of one of these variables
 abbrev pub has_price : List ℕ → Price → Bool
-has_price lines (Fixed c) = false
-has_price lines (Var v) = is_one_of lines v
-has_price lines Zero = false
+has_price variables (Fixed c) = false
+has_price variables (Var v) = is_one_of variables v
+has_price variables Zero = false
 
 -- the wanted price is greater than the present one
 abbrev pub price_rises : CostMoves → Price → Bool
@@ -27,7 +28,7 @@ price_rises m Zero = false
 
 -- the edges whose costs a step changes
 unfoldable pub edges_of_step : Rollout → ℕ → List ℕ
-edges_of_step r k = filter (λ e. has_price (lines_of_step r.moves k) (edge_at r.graph e).price) (numbers_from 0 (length r.graph.edges))
+edges_of_step r k = filter (λ e. has_price (variables_of_step r.moves k) (edge_at r.graph e).price) (numbers_from 0 (length r.graph.edges))
 
 -- the lesser of the present and the wanted cost, than which no state has less
 abbrev pub least_cost : CostMoves → ℕ → ℕ
@@ -57,11 +58,11 @@ pub record IsReach (r : Rollout) (reach : Reach) : Type 0 where
 
 -- each rival that goes over the edge costs more in a state than the path of the request
 abbrev pub AreDearerOver : Rollout → (ℕ → Bool) → ℕ → ℕ → Type 0
-AreDearerOver r done k e = (other : List ℕ) → IsPathOf r.graph (request_ends (request_at r.paths k)) other → Has other e →
-    cost r.graph (at_costs (costs_in r.moves done)) (request_at r.paths k).path.edges < cost r.graph (at_costs (costs_in r.moves done)) other
+AreDearerOver r done k e = (other : List ℕ) → IsPathOf r.graph (request_ends (request_at r.requests k)) other → Has other e →
+    cost r.graph (at_costs (costs_in r.moves done)) (request_at r.requests k).path.edges < cost r.graph (at_costs (costs_in r.moves done)) other
 
 -- The edge takes nothing from the path of a request in a state: on the path its price falls; off the path it rises, or
 -- each rival that goes over it costs more.
 pub record IsHarmless (r : Rollout) (done : ℕ → Bool) (k e : ℕ) : Type 0 where
-  pub on : Has (request_at r.paths k).path.edges e → price_rises r.moves (edge_at r.graph e).price ≡ false
-  pub off : (Has (request_at r.paths k).path.edges e → ⊥) → (price_rises r.moves (edge_at r.graph e).price ≡ true) ⊎ AreDearerOver r done k e
+  pub on : Has (request_at r.requests k).path.edges e → price_rises r.moves (edge_at r.graph e).price ≡ false
+  pub off : (Has (request_at r.requests k).path.edges e → ⊥) → (price_rises r.moves (edge_at r.graph e).price ≡ true) ⊎ AreDearerOver r done k e

@@ -1,16 +1,13 @@
 -- The states that a search tested.
 use Rattle.std.specs.Prelude.{◌≡◌, ◌≢◌, ℕ, ◌<◌, Bool, true, false, List, [], length, map, take, slice_index_or, slice_set, Contains}
 use Rattle.cost_base.specs.Lists.{numbers_from}
+use Rattle.cost_base.specs.Marks.{is_marked}
 use Rattle.change_steps.specs.declared.kinds.Kind.TheVariants.{Between}
 use Rattle.change_steps.specs.Rollouts.{Rollout, step_count}
 use Rattle.change_steps.specs.Orders.{IsSafe}
 use Rattle.change_steps.specs.Kinds.{comes_first, kind_of_step}
 
--- whether the marks of a state, one for each step, say that step k is done
-abbrev pub is_done_in : List Bool → ℕ → Bool
-is_done_in marks k = slice_index_or marks k false
-
--- the marks of a state
+-- the marks of a state, one for each step, that of a step set where it is done
 abbrev pub marks_of : Rollout → (ℕ → Bool) → List Bool
 marks_of r done = map done (numbers_from 0 (step_count r))
 
@@ -22,13 +19,13 @@ first_state r held = marks_of r (λ k. comes_first (kind_of_step r held k))
 pub record MayFollow (r : Rollout) (held : List ℕ) (marks : List Bool) (k : ℕ) : Type 0 where
   pub known : k < step_count r
   pub between : kind_of_step r held k ≡ Between
-  pub left : is_done_in marks k ≡ false
+  pub left : is_marked marks k ≡ false
 
 -- one of the tested states is safe, and with one step between more it is this one
 pub record IsReached (r : Rollout) (held : List ℕ) (tested : List (List Bool)) (marks : List Bool) : Type 0 where
   pub from : ℕ
   pub within : from < length tested
-  pub safe : IsSafe r held (is_done_in (slice_index_or tested from []))
+  pub safe : IsSafe r held (is_marked (slice_index_or tested from []))
   pub step : ℕ
   pub follows : MayFollow r held (slice_index_or tested from []) step
   pub same : marks ≡ slice_set (slice_index_or tested from []) step true

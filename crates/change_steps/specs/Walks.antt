@@ -1,9 +1,9 @@
 -- How a walk through the states stands, and how it ends. No public clause cites it.
 use Rattle.std.specs.Prelude.{◌≡◌, ℕ, ◌+◌, ◌-◌, ◌*◌, ◌<◌, ◌≤◌, ◌∷◌, max, [], length, Option, None, Some}
 use Rattle.spf_ties.specs.Distances.{IsRoomFor}
-use Rattle.change_steps.specs.declared.walk.Walk.{Walk}
-use Rattle.change_steps.specs.declared.walk.End.{End}
-use Rattle.change_steps.specs.declared.walk.End.TheVariants.{Complete, Exhausted, UsedUp}
+use Rattle.change_steps.specs.declared.state_search.Walk.{Walk}
+use Rattle.change_steps.specs.declared.state_search.End.{End}
+use Rattle.change_steps.specs.declared.state_search.End.TheVariants.{Complete, Exhausted, UsedUp}
 use Rattle.change_steps.specs.States.{AreAllReached, IsAnotherReached, MayFollow}
 use Rattle.change_steps.specs.Search.{AllLack, HeldRollout, IsSearch, IsStateOf, Position, way_state}
 
@@ -35,18 +35,19 @@ pub record IsComplete (p : HeldRollout) (w : Walk) : Type 0 where
   pub walk : IsSearchWalk p w
   pub whole : (k : ℕ) → MayFollow p.rollout p.held w.state.done.items k → ⊥
 
--- what a walk is by how it ended: all steps between are done; or all states that can be reached were tested; or as many as
--- the budget allows were tested, and another can be reached
+-- what a walk is by how it ended: all steps between are done; or all states that can be reached were tested; or as many
+-- as the budget allows were tested, and another can be reached
 abbrev pub IsWalkEnded : HeldRollout → ℕ → Walk → End → Type 0
 IsWalkEnded p nodes w Complete = IsComplete p w
 IsWalkEnded p nodes w Exhausted = IsUnderWay p nodes w × AreAllReached p.rollout p.held w.tested
 IsWalkEnded p nodes w UsedUp = IsUnderWay p nodes w × ((length w.tested ≡ max 1 nodes) × IsAnotherReached p.rollout p.held w.tested)
 
--- how much a walk has left: each state that may still be tested counts for two, one for going there and one for going back
+-- how much a walk has left: each state that may still be tested counts for two, one for going there and one for going
+-- back
 abbrev pub left_of : ℕ → Walk → ℕ
 left_of nodes w = 2 * (max 1 nodes - length w.tested) + length w.order.items
 
--- after a turn a walk is under way with less left, or it ended
-abbrev pub IsWalkTurned : HeldRollout → ℕ → Walk → Walk → Option End → Type 0
-IsWalkTurned p nodes old new None = IsUnderWay p nodes new × (left_of nodes new < left_of nodes old)
-IsWalkTurned p nodes old new (Some end) = IsWalkEnded p nodes new end
+-- after a round a walk is under way with less left, or it ended
+abbrev pub IsAfterRound : HeldRollout → ℕ → Walk → Walk → Option End → Type 0
+IsAfterRound p nodes old new None = IsUnderWay p nodes new × (left_of nodes new < left_of nodes old)
+IsAfterRound p nodes old new (Some end) = IsWalkEnded p nodes new end

@@ -8,10 +8,10 @@ ghost use Rattle.change_steps.specs.Walks.{IsBegun};
 
 use crate::ending::outcome_of;
 use crate::found::{Outcome, Steps};
+use crate::held_rollout::HeldRollout;
 use crate::moves::Moves;
-use crate::plan::Plan;
 use crate::rollout::Rollout;
-use crate::walk::Walk;
+use crate::state_search::Walk;
 use area_graph::Graph;
 use cost_base::OutOfMemory;
 use design_problem::Request;
@@ -21,24 +21,29 @@ use std::alloc::Global;
 /// What a search comes to that begins at the state of the first steps.
 fn outcome_in(
     alloc: Global,
-    plan: &Plan,
+    held_rollout: &HeldRollout,
     walk: &mut Walk,
     nodes: u32,
 ) -> Result<Outcome, OutOfMemory>
-    requires { IsBegun plan.now walk.old }
-    ensures { IfOk result (IsOutcome plan.now.rollout plan.now.held nodes) }
+    requires { IsBegun held_rollout.now walk.old }
+    ensures { IfOk result (IsOutcome held_rollout.now.rollout held_rollout.now.held nodes) }
 {
-    let end = walk.search(alloc, plan, nodes)?;
-    outcome_of(alloc, plan, walk, end)
+    let end = walk.search(alloc, held_rollout, nodes)?;
+    outcome_of(alloc, held_rollout, walk, end)
 }
 
-/// What the search for an order of a plan's steps comes to, in this room for distances.
-fn outcome_by(alloc: Global, plan: &Plan, room: Room, nodes: u32) -> Result<Outcome, OutOfMemory>
-    requires { IsRoomFor plan.now.rollout.graph room }
-    ensures { IfOk result (IsOutcome plan.now.rollout plan.now.held nodes) }
+/// What the search for an order of a rollout's steps comes to, in this room for distances.
+fn outcome_by(
+    alloc: Global,
+    held_rollout: &HeldRollout,
+    room: Room,
+    nodes: u32,
+) -> Result<Outcome, OutOfMemory>
+    requires { IsRoomFor held_rollout.now.rollout.graph room }
+    ensures { IfOk result (IsOutcome held_rollout.now.rollout held_rollout.now.held nodes) }
 {
-    let mut walk = Walk::begin(alloc, plan, room)?;
-    outcome_in(alloc, plan, &mut walk, nodes)
+    let mut walk = Walk::begin(alloc, held_rollout, room)?;
+    outcome_in(alloc, held_rollout, &mut walk, nodes)
 }
 
 /// An order of all steps in which each held path stays the only cheapest of its request: one that is so both at present
@@ -54,22 +59,26 @@ fn outcome_by(alloc: Global, plan: &Plan, room: Room, nodes: u32) -> Result<Outc
 pub fn find_steps(
     alloc: Global,
     graph: &Graph,
-    paths: &[Request],
+    requests: &[Request],
     moves: &Moves,
     nodes: u32,
 ) -> Result<Steps, OutOfMemory>
     requires priced { All (λ edge. IsPriced (length moves.now.present) edge.price) graph.now.edges }
-    requires paths { ArePathsOf graph.now paths.now }
-    requires few { length paths.now ≤ 10000 }
-    ensures { IfOk result
-        (AreStepsFound (record { graph = graph.now; paths = paths.now; moves = moves.now }) nodes) }
+    requires requests { ArePathsOf graph.now requests.now }
+    requires few { length requests.now ≤ 10000 }
+    ensures { IfOk result (AreStepsFound (record {
+      graph = graph.now;
+      requests = requests.now;
+      moves
+          = moves.now;
+    }) nodes) }
 {
-    let rollout = Rollout::new(graph, paths, moves);
+    let rollout = Rollout::new(graph, requests, moves);
     let mut room = Room::new(alloc, graph)?;
-    let plan = Plan::new(alloc, rollout, &mut room)?;
-    let outcome = outcome_by(alloc, &plan, room, nodes)?;
+    let held_rollout = HeldRollout::new(alloc, rollout, &mut room)?;
+    let outcome = outcome_by(alloc, &held_rollout, room, nodes)?;
     Ok(Steps {
-        held: plan.into_held(),
+        held: held_rollout.into_held(),
         outcome,
     })
 }

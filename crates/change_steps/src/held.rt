@@ -1,13 +1,14 @@
 //! The paths that a rollout has to hold.
 ghost use Rattle.std.specs.Prelude.{◌≡◌, ◌↔◌, ◌<◌, IfOk, IsTrue, length};
+ghost use Rattle.cost_base.specs.Marks.{is_marked};
 ghost use Rattle.spf_ties.specs.Distances.{IsRoomFor};
 ghost use Rattle.change_steps.specs.Orders.{AreHeld, IsOnlyIn, all_done, none_done};
-ghost use Rattle.change_steps.specs.States.{is_done_in, marks_of};
+ghost use Rattle.change_steps.specs.States.{marks_of};
 ghost use Rattle.change_steps.specs.Search.{IsStateOf};
 
 use crate::rollout::Rollout;
 use crate::state::State;
-use cost_base::OutOfMemory;
+use cost_base::{OutOfMemory, push_if};
 use spf_ties::Room;
 use std::alloc::Global;
 
@@ -22,15 +23,15 @@ fn is_only_in_both(
     // Both states and the request are of the rollout.
     requires first { IsStateOf rollout.now first.now }
     requires second { IsStateOf rollout.now second.now }
-    requires known { number < length rollout.now.paths }
+    requires known { number < length rollout.now.requests }
 
     // The room is one for the rollout's graph, before and after.
     requires room { IsRoomFor rollout.now.graph room.old }
     ensures room { IsRoomFor rollout.now.graph room.new }
 
     // It tells of the request's path in the one state and in the other.
-    ensures both { IsTrue result ↔ (IsOnlyIn rollout.now (is_done_in first.now.done.items) number ×
-        IsOnlyIn rollout.now (is_done_in second.now.done.items) number) }
+    ensures both { IsTrue result ↔ (IsOnlyIn rollout.now (is_marked first.now.done.items) number ×
+        IsOnlyIn rollout.now (is_marked second.now.done.items) number) }
 {
     if !first.is_only(rollout, number, room) {
         return false;
@@ -60,10 +61,9 @@ fn held_in(
     ensures held { IfOk result (λ held. AreHeld rollout.now held.items) }
 {
     let mut held = Vec::new(alloc);
-    for number in 0..rollout.path_count() {
-        if is_only_in_both(rollout, present, wanted, number, room) {
-            held.push(number)?;
-        }
+    for number in 0..rollout.request_count() {
+        let is_held = is_only_in_both(rollout, present, wanted, number, room);
+        push_if(&mut held, number, is_held)?;
     }
     Ok(held)
 }

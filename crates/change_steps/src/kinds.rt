@@ -1,25 +1,26 @@
 //! Which steps come first and last.
-ghost use Rattle.std.specs.Prelude.{◌≡◌, ◌<◌, ◌||◌, ℕ, All, List, IfOk, false, length, map, slice_index_or};
+ghost use Rattle.std.specs.Prelude.{◌≡◌, ◌<◌, ◌||◌, ℕ, All, List, IfOk, length, map};
 ghost use Rattle.std.specs.List.{list_all};
 ghost use Rattle.cost_base.specs.Lists.{numbers_from};
+ghost use Rattle.cost_base.specs.Marks.{is_marked};
 ghost use Rattle.design_problem.specs.Rows.{is_var};
-ghost use Rattle.change_steps.specs.Rollouts.{lines_of_step, step_count};
+ghost use Rattle.change_steps.specs.Rollouts.{variables_of_step, step_count};
 ghost use Rattle.change_steps.specs.Kinds.{falls_off_held, goes_over, has_kind, kind_of_step, lies_on_held, rises, rises_off_held};
 ghost use Rattle.change_steps.specs.Search.{AreHeldMarks};
 
 use crate::rollout::Rollout;
 use area_graph::{Graph, Price, edge_of};
-use cost_base::{OutOfMemory, no_marks};
+use cost_base::{OutOfMemory, mark_within, no_marks};
 use std::alloc::Global;
 
-/// When a step is done, by where its lines lie and whether their costs rise.
+/// When a step is done, by where its variables lie and whether their costs rise.
 #[derive(Clone, Copy, PartialEq, Eq)]
 pub(crate) enum Kind {
-    /// All its lines rise off the held paths: before the steps between.
+    /// All its variables rise off the held paths: before the steps between.
     First,
     /// Neither first nor last: a safe order has to be looked for.
     Between,
-    /// All its lines fall off the held paths: after the steps between.
+    /// All its variables fall off the held paths: after the steps between.
     Last,
 }
 
@@ -35,26 +36,15 @@ pub(crate) fn is_kind(kind: Kind, other: Kind) -> bool
     }
 }
 
-/// Whether a price is that of a variable.
-pub(crate) fn is_variable(price: Price, line: u32) -> bool
-    ensures { result ≡ is_var line price }
-{
-    match price {
-        Price::Var(number) => number == line,
-        Price::Fixed(_) | Price::Zero => false,
-    }
-}
-
 /// Marks the variable of a price, if it is one of those that have marks.
 fn mark_price(marks: &mut Vec<bool>, price: Price)
     ensures count { length marks.new.items ≡ length marks.old.items }
-    ensures marks { (v : ℕ) → v < length marks.old.items → slice_index_or marks.new.items v false ≡
-        (slice_index_or marks.old.items v false || is_var v price) }
+    ensures marks { (v : ℕ) → v < length marks.old.items → is_marked marks.new.items v ≡
+        (is_marked marks.old.items v || is_var v price) }
 {
-    if let Price::Var(number) = price {
-        if (number as usize) < marks.len() {
-            marks[number as usize] = true;
-        }
+    match price {
+        Price::Var(number) => mark_within(marks, number as usize),
+        Price::Fixed(_) | Price::Zero => {}
     }
 }
 
@@ -62,8 +52,8 @@ fn mark_price(marks: &mut Vec<bool>, price: Price)
 fn mark_path(marks: &mut Vec<bool>, graph: &Graph, edges: &[u32])
     requires { All (λ e. e < length graph.now.edges) edges.now }
     ensures count { length marks.new.items ≡ length marks.old.items }
-    ensures marks { (v : ℕ) → v < length marks.old.items → slice_index_or marks.new.items v false ≡
-        (slice_index_or marks.old.items v false || goes_over graph.now edges.now v) }
+    ensures marks { (v : ℕ) → v < length marks.old.items → is_marked marks.new.items v ≡
+        (is_marked marks.old.items v || goes_over graph.now edges.now v) }
 {
     for edge in edges {
         mark_price(marks, edge_of(graph, *edge).price);
@@ -72,7 +62,7 @@ fn mark_path(marks: &mut Vec<bool>, graph: &Graph, edges: &[u32])
 
 /// A mark for each variable that lies on a held path.
 fn mark_held(alloc: Global, rollout: &Rollout, held: &[u32]) -> Result<Vec<bool>, OutOfMemory>
-    requires { All (λ k. k < length rollout.now.paths) held.now }
+    requires { All (λ k. k < length rollout.now.requests) held.now }
     ensures { IfOk result (λ marks. AreHeldMarks rollout.now held.now marks.items) }
 {
     rollout.keeps_conditions();
@@ -88,38 +78,38 @@ fn mark_held(alloc: Global, rollout: &Rollout, held: &[u32]) -> Result<Vec<bool>
 }
 
 /// Whether the wanted cost of a variable is greater than its present one.
-pub(crate) fn line_rises(rollout: &Rollout, line: u32) -> bool
-    requires { line < length rollout.now.moves.present }
-    ensures { result ≡ rises rollout.now.moves line }
+pub(crate) fn variable_rises(rollout: &Rollout, variable: u32) -> bool
+    requires { variable < length rollout.now.moves.present }
+    ensures { result ≡ rises rollout.now.moves variable }
 {
     rollout.keeps_conditions();
-    rollout.present()[line as usize] < rollout.wanted()[line as usize]
+    rollout.present()[variable as usize] < rollout.wanted()[variable as usize]
 }
 
-/// Whether each line of a step rises off the held paths.
-fn all_rise(rollout: &Rollout, marks: &[bool], lines: &[u32]) -> bool
-    requires known { All (λ v. v < length rollout.now.moves.present) lines.now }
+/// Whether each variable of a step rises off the held paths.
+fn all_rise(rollout: &Rollout, marks: &[bool], variables: &[u32]) -> bool
+    requires known { All (λ v. v < length rollout.now.moves.present) variables.now }
     requires count { length marks.now ≡ length rollout.now.moves.present }
     ensures { (held : List ℕ) → AreHeldMarks rollout.now held marks.now →
-        result ≡ list_all (rises_off_held rollout.now held) lines.now }
+        result ≡ list_all (rises_off_held rollout.now held) variables.now }
 {
-    for line in lines {
-        if !line_rises(rollout, *line) || marks[*line as usize] {
+    for variable in variables {
+        if !variable_rises(rollout, *variable) || marks[*variable as usize] {
             return false;
         }
     }
     true
 }
 
-/// Whether each line of a step falls off the held paths.
-fn all_fall(rollout: &Rollout, marks: &[bool], lines: &[u32]) -> bool
-    requires known { All (λ v. v < length rollout.now.moves.present) lines.now }
+/// Whether each variable of a step falls off the held paths.
+fn all_fall(rollout: &Rollout, marks: &[bool], variables: &[u32]) -> bool
+    requires known { All (λ v. v < length rollout.now.moves.present) variables.now }
     requires count { length marks.now ≡ length rollout.now.moves.present }
     ensures { (held : List ℕ) → AreHeldMarks rollout.now held marks.now →
-        result ≡ list_all (falls_off_held rollout.now held) lines.now }
+        result ≡ list_all (falls_off_held rollout.now held) variables.now }
 {
-    for line in lines {
-        if line_rises(rollout, *line) || marks[*line as usize] {
+    for variable in variables {
+        if variable_rises(rollout, *variable) || marks[*variable as usize] {
             return false;
         }
     }
@@ -134,10 +124,10 @@ fn kind_of(rollout: &Rollout, marks: &[bool], step: usize) -> Kind
         result ≡ kind_of_step rollout.now held step }
 {
     rollout.keeps_conditions();
-    let lines = rollout.lines(step);
-    if all_rise(rollout, marks, lines) {
+    let variables = rollout.variables(step);
+    if all_rise(rollout, marks, variables) {
         Kind::First
-    } else if all_fall(rollout, marks, lines) {
+    } else if all_fall(rollout, marks, variables) {
         Kind::Last
     } else {
         Kind::Between
@@ -150,7 +140,7 @@ pub(crate) fn kinds_of(
     rollout: &Rollout,
     held: &[u32],
 ) -> Result<Vec<Kind>, OutOfMemory>
-    requires { All (λ k. k < length rollout.now.paths) held.now }
+    requires { All (λ k. k < length rollout.now.requests) held.now }
     ensures { IfOk result (λ kinds. kinds.items ≡ map (kind_of_step rollout.now held.now)
         (numbers_from 0 (step_count rollout.now))) }
 {

@@ -5,14 +5,14 @@ mod ending;
 mod finding;
 mod found;
 mod held;
+mod held_rollout;
 mod kinds;
 mod moves;
-mod plan;
 mod reach;
 mod rollout;
 mod state;
+mod state_search;
 mod tested;
-mod walk;
 
 pub use finding::find_steps;
 pub use found::{Barrier, Blocked, Outcome, Steps, Stuck};

@@ -34,7 +34,7 @@ impl Model for Moves {
 }
 
 impl Moves {
-    /// A law of all moves, which takes no time: they keep the conditions of their type.
+    /// For the prover alone: keeps that moves meet the conditions of their type; takes no time and changes nothing.
     pub fn keeps_conditions(&self)
         ensures { AreMoves self.now }
     {

@@ -1,18 +1,18 @@
 //! What rivals cost at least that go over the links of a step.
 ghost use Rattle.std.specs.Prelude.{◌≡◌, ◌++◌, ◌∷◌, ◌<◌, ◌≤◌, ◌^◌, ℕ, [], All, IfOk, IsTrue, OnOk, Some, length, map, slice_index_or};
 ghost use Rattle.cost_base.specs.Lists.{numbers_from};
+ghost use Rattle.cost_base.specs.Marks.{is_marked};
 ghost use Rattle.area_graph.specs.Costs.{FitsPoint, IsPriced, at_costs};
 ghost use Rattle.spf_ties.specs.Distances.{IsRoomFor};
 ghost use Rattle.change_steps.specs.Rollouts.{step_count};
-ghost use Rattle.change_steps.specs.States.{is_done_in};
 ghost use Rattle.change_steps.specs.Search.{IsStateOf};
 ghost use Rattle.change_steps.specs.Reaches.{AreLeastToEach, AreDearerOver, AreLeastTo, IsHarmless, IsReach, least_from_to, edges_of_step, has_price, least_cost, least_costs, price_rises};
 
-use crate::kinds::{Kind, is_kind, line_rises};
+use crate::kinds::{Kind, is_kind, variable_rises};
 use crate::rollout::Rollout;
 use crate::state::State;
 use area_graph::{FAR, Graph, Point, Price, edge_of, path_cost, price_of};
-use cost_base::{Listed, OutOfMemory, no_marks};
+use cost_base::{Listed, OutOfMemory, mark_within, no_marks, push_if};
 use spf_ties::Room;
 use std::alloc::Global;
 
@@ -26,11 +26,11 @@ pub(crate) struct Reach {
 }
 
 /// Whether a price is the cost of one of these variables.
-fn has_price(lines: &[u32], price: Price) -> bool
-    ensures { result ≡ has_price lines.now price }
+fn has_price(variables: &[u32], price: Price) -> bool
+    ensures { result ≡ has_price variables.now price }
 {
     match price {
-        Price::Var(line) => lines.contains(&line),
+        Price::Var(variable) => variables.contains(&variable),
         Price::Fixed(_) | Price::Zero => false,
     }
 }
@@ -42,24 +42,23 @@ fn edges_of_step(alloc: Global, rollout: &Rollout, step: usize) -> Result<Vec<u3
     ensures { IfOk result (λ edges. edges.items ≡ edges_of_step rollout.now step) }
 {
     rollout.keeps_conditions();
-    let lines = rollout.lines(step);
+    let variables = rollout.variables(step);
     let mut edges = Vec::new(alloc);
     for number in 0..rollout.edge_count() {
-        if has_price(lines, edge_of(rollout.graph(), number).price) {
-            edges.push(number)?;
-        }
+        let edge = edge_of(rollout.graph(), number);
+        push_if(&mut edges, number, has_price(variables, edge.price))?;
     }
     Ok(edges)
 }
 
 /// The least cost of a variable in any state.
-fn least_cost(rollout: &Rollout, line: usize) -> u16
-    requires { line < length rollout.now.moves.present }
-    ensures { result ≡ least_cost rollout.now.moves line }
+fn least_cost(rollout: &Rollout, variable: usize) -> u16
+    requires { variable < length rollout.now.moves.present }
+    ensures { result ≡ least_cost rollout.now.moves variable }
 {
     rollout.keeps_conditions();
-    let present = rollout.present()[line];
-    let wanted = rollout.wanted()[line];
+    let present = rollout.present()[variable];
+    let wanted = rollout.wanted()[variable];
     if present < wanted { present } else { wanted }
 }
 
@@ -69,8 +68,8 @@ fn least_costs(alloc: Global, rollout: &Rollout) -> Result<Point, OutOfMemory>
     ensures { IfOk result (λ point. point ≡ at_costs (least_costs rollout.now.moves)) }
 {
     let mut values = Vec::new(alloc);
-    for line in 0..rollout.present().len() {
-        values.push(least_cost(rollout, line) as u128)?;
+    for variable in 0..rollout.present().len() {
+        values.push(least_cost(rollout, variable) as u128)?;
     }
     Ok(Point {
         scale: 1,
@@ -111,33 +110,24 @@ fn least_to(
     Ok(least)
 }
 
-/// Marks a vertex, if it is one of those that have marks.
-fn mark(marks: &mut Vec<bool>, vertex: u32)
-    ensures { length marks.new.items ≡ length marks.old.items }
-{
-    if (vertex as usize) < marks.len() {
-        marks[vertex as usize] = true;
-    }
-}
-
 /// Marks the vertices that some edges leave.
 fn mark_starts(marks: &mut Vec<bool>, graph: &Graph, edges: &[u32])
     ensures { length marks.new.items ≡ length marks.old.items }
 {
     for number in edges {
         if let Some(edge) = graph.edges().get(*number as usize) {
-            mark(marks, edge.from);
+            mark_within(marks, edge.from as usize);
         }
     }
 }
 
 /// Marks the ends of the held paths.
 fn mark_ends(marks: &mut Vec<bool>, rollout: &Rollout, held: &[u32])
-    requires { All (λ k. k < length rollout.now.paths) held.now }
+    requires { All (λ k. k < length rollout.now.requests) held.now }
     ensures { length marks.new.items ≡ length marks.old.items }
 {
     for number in held {
-        mark(marks, rollout.request(*number).end);
+        mark_within(marks, rollout.request(*number).end as usize);
     }
 }
 
@@ -186,7 +176,7 @@ fn mark_asked(
     kinds: &[Kind],
     edges: &[Listed<u32>],
 ) -> Result<Vec<bool>, OutOfMemory>
-    requires { All (λ k. k < length rollout.now.paths) held.now }
+    requires { All (λ k. k < length rollout.now.requests) held.now }
     ensures { IfOk result (λ asked. length asked.items ≡ length rollout.now.graph.vertices) }
 {
     let graph = rollout.graph();
@@ -270,7 +260,7 @@ fn price_rises(rollout: &Rollout, price: Price) -> bool
     ensures { result ≡ price_rises rollout.now.moves price }
 {
     match price {
-        Price::Var(line) => line_rises(rollout, line),
+        Price::Var(variable) => variable_rises(rollout, variable),
         Price::Fixed(_) | Price::Zero => false,
     }
 }
@@ -285,7 +275,7 @@ impl Reach {
         room: &mut Room,
     ) -> Result<Reach, OutOfMemory>
         requires room { IsRoomFor rollout.now.graph room.old }
-        requires held { All (λ k. k < length rollout.now.paths) held.now }
+        requires held { All (λ k. k < length rollout.now.requests) held.now }
         ensures room { IsRoomFor rollout.now.graph room.new }
         ensures reach { IfOk result (IsReach rollout.now) }
     {
@@ -342,9 +332,9 @@ impl Reach {
     fn are_dearer_over(&self, rollout: &Rollout, state: &State, number: u32, edge: u32) -> bool
         requires reach { IsReach rollout.now self.now }
         requires state { IsStateOf rollout.now state.now }
-        requires number { number < length rollout.now.paths }
+        requires number { number < length rollout.now.requests }
         requires edge { edge < length rollout.now.graph.edges }
-        ensures { IsTrue result → AreDearerOver rollout.now (is_done_in state.now.done.items) number
+        ensures { IsTrue result → AreDearerOver rollout.now (is_marked state.now.done.items) number
             edge }
     {
         rollout.keeps_conditions();
@@ -362,9 +352,9 @@ impl Reach {
     fn is_harmless(&self, rollout: &Rollout, state: &State, number: u32, edge: u32) -> bool
         requires reach { IsReach rollout.now self.now }
         requires state { IsStateOf rollout.now state.now }
-        requires number { number < length rollout.now.paths }
+        requires number { number < length rollout.now.requests }
         requires edge { edge < length rollout.now.graph.edges }
-        ensures { IsTrue result → IsHarmless rollout.now (is_done_in state.now.done.items) number
+        ensures { IsTrue result → IsHarmless rollout.now (is_marked state.now.done.items) number
             edge }
     {
         rollout.keeps_conditions();
@@ -381,10 +371,10 @@ impl Reach {
     pub(crate) fn spares(&self, rollout: &Rollout, state: &State, number: u32, step: usize) -> bool
         requires reach { IsReach rollout.now self.now }
         requires state { IsStateOf rollout.now state.now }
-        requires number { number < length rollout.now.paths }
+        requires number { number < length rollout.now.requests }
         requires step { step < step_count rollout.now }
         ensures { IsTrue result →
-            All (IsHarmless rollout.now (is_done_in state.now.done.items) number)
+            All (IsHarmless rollout.now (is_marked state.now.done.items) number)
             (edges_of_step rollout.now step) }
     {
         for edge in self.edges(step) {

@@ -3,7 +3,7 @@ ghost use Rattle.std.specs.Prelude.{◌≡◌, ◌<◌, ◌≤◌, All, length};
 ghost use Rattle.area_graph.specs.Costs.{IsPriced};
 ghost use Rattle.design_problem.specs.Problems.{request_at};
 ghost use Rattle.rival_separation.specs.Askers.{ArePathsOf};
-ghost use Rattle.change_steps.specs.Rollouts.{AreMoves, IsRollout, lines_of_step, step_count};
+ghost use Rattle.change_steps.specs.Rollouts.{AreMoves, IsRollout, variables_of_step, step_count};
 
 use crate::moves::Moves;
 use area_graph::Graph;
@@ -14,7 +14,7 @@ use std::marker::Model;
 #[derive(Drop)]
 pub(crate) struct Rollout<'a> {
     graph: &'a Graph,
-    paths: &'a [Request],
+    requests: &'a [Request],
     moves: &'a Moves,
 }
 
@@ -23,34 +23,43 @@ impl<'a> Model for Rollout<'a> {
 
     ghost Value = { OneRollout };
 
-    ghost view = { λ r. record { graph = r.graph.now; paths = r.paths.now; moves = r.moves.now } };
+    ghost view = { λ r. record {
+      graph = r.graph.now;
+      requests = r.requests.now;
+      moves = r.moves.now;
+    } };
 
     ghost invariant = { λ r. IsRollout (record {
       graph = r.graph.now;
-      paths = r.paths.now;
+      requests = r.requests.now;
       moves = r.moves.now;
     }) };
 }
 
 impl<'a> Rollout<'a> {
     /// The rollout of a graph, its requests and its moves.
-    pub fn new(graph: &'a Graph, paths: &'a [Request], moves: &'a Moves) -> Rollout<'a>
+    pub fn new(graph: &'a Graph, requests: &'a [Request], moves: &'a Moves) -> Rollout<'a>
         requires priced { All (λ edge. IsPriced (length moves.now.present) edge.price)
             graph.now.edges }
-        requires paths { ArePathsOf graph.now paths.now }
-        requires few { length paths.now ≤ 10000 }
-        ensures { result ≡ record { graph = graph.now; paths = paths.now; moves = moves.now } }
+        requires requests { ArePathsOf graph.now requests.now }
+        requires few { length requests.now ≤ 10000 }
+        ensures { result ≡ record {
+          graph = graph.now;
+          requests = requests.now;
+          moves =
+              moves.now;
+        } }
     {
         graph.keeps_conditions();
         moves.keeps_conditions();
         Rollout {
             graph,
-            paths,
+            requests,
             moves,
         }
     }
 
-    /// A law of each rollout, which takes no time: it keeps its conditions.
+    /// For the prover alone: keeps that a rollout meets its conditions; takes no time and changes nothing.
     pub fn keeps_conditions(&self)
         ensures { IsRollout self.now }
     {
@@ -74,18 +83,18 @@ impl<'a> Rollout<'a> {
     }
 
     /// How many requests there are.
-    pub fn path_count(&self) -> u32
-        ensures { result ≡ length self.now.paths }
+    pub fn request_count(&self) -> u32
+        ensures { result ≡ length self.now.requests }
     {
-        self.paths.len() as u32
+        self.requests.len() as u32
     }
 
     /// The request of that number.
     pub fn request(&self, number: u32) -> &Request
-        requires { number < length self.now.paths }
-        ensures { result.now ≡ request_at self.now.paths number }
+        requires { number < length self.now.requests }
+        ensures { result.now ≡ request_at self.now.requests number }
     {
-        &self.paths[number as usize]
+        &self.requests[number as usize]
     }
 
     /// How many steps there are.
@@ -97,14 +106,14 @@ impl<'a> Rollout<'a> {
     }
 
     /// The variables that a step changes.
-    pub fn lines(&self, step: usize) -> &[u32]
+    pub fn variables(&self, step: usize) -> &[u32]
         requires { step < step_count self.now }
-        ensures { result.now ≡ lines_of_step self.now.moves step }
+        ensures { result.now ≡ variables_of_step self.now.moves step }
     {
         let moves = self.moves;
         let steps = moves.steps.as_slice();
-        let lines = &steps[step];
-        lines.as_slice()
+        let variables = &steps[step];
+        variables.as_slice()
     }
 
     /// The present costs.

@@ -1,13 +1,14 @@
 //! A state of a rollout, with its costs.
 ghost use Rattle.std.specs.Prelude.{◌≡◌, ◌↔◌, ◌<◌, ℕ, All, IfOk, IsTrue, cond, false, length, slice_index, slice_set, true};
+ghost use Rattle.cost_base.specs.Marks.{is_marked, is_one_of};
 ghost use Rattle.spf_ties.specs.Distances.{IsRoomFor};
-ghost use Rattle.change_steps.specs.Rollouts.{lines_of_step, step_count};
-ghost use Rattle.change_steps.specs.Orders.{IsOnlyIn, all_done, is_one_of, none_done};
-ghost use Rattle.change_steps.specs.States.{is_done_in, marks_of};
+ghost use Rattle.change_steps.specs.Rollouts.{variables_of_step, step_count};
+ghost use Rattle.change_steps.specs.Orders.{IsOnlyIn, all_done, none_done};
+ghost use Rattle.change_steps.specs.States.{marks_of};
 ghost use Rattle.change_steps.specs.Search.{IsStateOf};
 
 use crate::rollout::Rollout;
-use area_graph::Point;
+use area_graph::{Point, point_of};
 use cost_base::{Listed, OutOfMemory, no_marks};
 use rival_separation::find_rival;
 use spf_ties::Room;
@@ -20,27 +21,16 @@ pub(crate) struct State {
     point: Point,
 }
 
-/// These costs, as the values of a point.
-fn widened(alloc: Global, costs: &[u16]) -> Result<Vec<u128>, OutOfMemory>
-    ensures { IfOk result (λ values. values.items ≡ costs.now) }
-{
-    let mut values = Vec::new(alloc);
-    for cost in costs {
-        values.push(*cost as u128)?;
-    }
-    Ok(values)
-}
-
 /// Gives the variables of a step these costs.
-fn put(values: &mut Listed<u128>, lines: &[u32], costs: &[u16])
-    requires known { All (λ v. v < length values.old) lines.now }
+fn put(values: &mut Listed<u128>, variables: &[u32], costs: &[u16])
+    requires known { All (λ v. v < length values.old) variables.now }
     requires costs { length costs.now ≡ length values.old }
     ensures count { length values.new ≡ length values.old }
-    ensures put { (v : ℕ) → slice_index values.new v ≡ cond (is_one_of lines.now v)
+    ensures put { (v : ℕ) → slice_index values.new v ≡ cond (is_one_of variables.now v)
         (slice_index costs.now v) (slice_index values.old v) }
 {
-    for line in lines {
-        let place = *line as usize;
+    for variable in variables {
+        let place = *variable as usize;
         values.set(place, costs[place] as u128);
     }
 }
@@ -52,14 +42,8 @@ impl State {
         ensures none { IfOk result (λ state. state.done.items ≡ marks_of rollout.now none_done) }
     {
         let done = no_marks(alloc, rollout.step_count())?;
-        let values = widened(alloc, rollout.present())?;
-        Ok(State {
-            done,
-            point: Point {
-                scale: 1,
-                values: Listed::from_items(values),
-            },
-        })
+        let point = point_of(alloc, rollout.present())?;
+        Ok(State { done, point })
     }
 
     /// The state after some steps.
@@ -102,7 +86,7 @@ impl State {
         rollout.keeps_conditions();
         put(
             &mut self.point.values,
-            rollout.lines(step),
+            rollout.variables(step),
             rollout.wanted(),
         );
         self.done[step] = true;
@@ -118,7 +102,7 @@ impl State {
         rollout.keeps_conditions();
         put(
             &mut self.point.values,
-            rollout.lines(step),
+            rollout.variables(step),
             rollout.present(),
         );
         self.done[step] = false;
@@ -134,11 +118,11 @@ impl State {
     /// Whether the path of a request is the only cheapest in the state.
     pub(crate) fn is_only(&self, rollout: &Rollout, number: u32, room: &mut Room) -> bool
         requires state { IsStateOf rollout.now self.now }
-        requires known { number < length rollout.now.paths }
+        requires known { number < length rollout.now.requests }
         requires room { IsRoomFor rollout.now.graph room.old }
         ensures room { IsRoomFor rollout.now.graph room.new }
         ensures only { IsTrue result ↔
-            IsOnlyIn rollout.now (is_done_in self.now.done.items) number }
+            IsOnlyIn rollout.now (is_marked self.now.done.items) number }
     {
         rollout.keeps_conditions();
         !find_rival(rollout.graph(), rollout.request(number), &self.point, room)

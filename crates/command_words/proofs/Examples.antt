@@ -2,7 +2,8 @@
 use Rattle.std.proofs.Common.{◌≡◌, refl, [], ◌∷◌, Some, None}
 use Rattle.std.specs.Prelude.{codes, ◌-◌, ◌^◌}
 use Rattle.clap.proofs.OnLiterals.{clap_on_literals}
-use Rattle.command_words.specs.Jobs.{SearchLimits, Design, Check, Audit, Change, Steps, Compare, Route, Help, Version}
+use Rattle.command_words.specs.Jobs.{Design, Check, Audit, Change, Steps, Compare, Route, Help, Version}
+use Rattle.wide_fraction.specs.SearchLimits.{SearchLimits}
 use Rattle.command_words.specs.declared.job.StepUnit.TheVariants.{Line, Router}
 use Rattle.command_words.specs.declared.job.CommandName.TheVariants as name
 use Rattle.command_words.specs.Commands.{job_of, job_of_row, command_named, commands}

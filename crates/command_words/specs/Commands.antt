@@ -7,7 +7,8 @@ use Rattle.clap.specs.Lexer.{usize_max}
 use Rattle.clap.specs.Walk.{Row, Rule, first_of, all_of, is_empty}
 use Rattle.clap.specs.Simple.{App, new_app, new_rule, with_rule, matches_of}
 use Rattle.clap.specs.Faults.{fault_of}
-use Rattle.command_words.specs.Jobs.{Text, SearchLimits, SearchRead, JobRead, Design, Check, Audit, Rewrite, Trial, Conflict, Spread, Total, Change, Steps, Compare, Lsas, Route, Help, Version}
+use Rattle.command_words.specs.Jobs.{Text, SearchRead, JobRead, Design, Check, Audit, Rewrite, Trial, Conflict, Spread, Total, Change, Steps, Compare, Lsas, Route, Help, Version}
+use Rattle.wide_fraction.specs.SearchLimits.{SearchLimits}
 use Rattle.command_words.specs.declared.job.CommandName.{CommandName}
 use Rattle.command_words.specs.declared.job.CommandName.TheVariants as name
 use Rattle.command_words.specs.declared.job.StepUnit.{StepUnit}
@@ -70,7 +71,7 @@ pub data Operands : Type 0 where
 abbrev pub option : Bool → Text → Rule
 option must name = record (new_rule name) { long = Some name; required = must }
 
--- the CONFIG word
+-- the CONFIG word, which must be given
 abbrev pub config_word : Rule
 config_word = record (new_rule (codes "CONFIG")) { required = true }
 

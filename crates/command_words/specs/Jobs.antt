@@ -1,6 +1,6 @@
 -- Jobs as contracts see them.
 use Rattle.std.specs.Prelude.{ℕ, ◌<◌, ◌≤◌, ◌^◌, List, Option, option_map, string_bytes}
-use Rattle.wide_fraction.specs.declared.bounds.Limits.{Limits}
+use Rattle.wide_fraction.specs.SearchLimits.{SearchLimits, limits_seen}
 use Rattle.command_words.specs.declared.job.Search.{Search}
 use Rattle.command_words.specs.declared.job.Job.{Job}
 use Rattle.command_words.specs.declared.job.Job.TheVariants as variant
@@ -11,11 +11,6 @@ use Rattle.text_lines.specs.Arguments.{texts}
 -- the bytes of a word
 abbrev pub Text : Type 0
 Text = List ℕ
-
--- the limits of a search: its budget, and the greatest size of a whole number
-pub record SearchLimits : Type 0 where
-  pub nodes : ℕ
-  pub top : ℕ
 
 -- what a search is asked
 pub record SearchRead : Type 0 where
@@ -40,10 +35,6 @@ pub data JobRead : Type 0 where
   Route : (lsas : Text) → (from : ℕ) → (to : ℕ) → JobRead
   Help : (topic : Option CommandName) → JobRead
   Version : JobRead
-
--- the limits of a search as contracts see them
-abbrev pub limits_seen : Limits → SearchLimits
-limits_seen limits = record { nodes = limits.nodes; top = limits.top }
 
 -- a search with the bytes of its texts
 abbrev pub search_seen : Search → SearchRead

@@ -4,7 +4,7 @@ ghost use Rattle.text_lines.specs.Numbers as numbers;
 ghost use Rattle.command_words.specs.Commands.{option_value, configs_found, number_between, number_or, limits};
 ghost use Rattle.command_words.specs.Commands.{nodes_found, step_unit, unit_named, topic_of};
 ghost use Rattle.command_words.specs.Forms.{rows_found, now_texts, Answers};
-ghost use Rattle.command_words.specs.Jobs.{limits_seen};
+ghost use Rattle.wide_fraction.specs.SearchLimits.{limits_seen};
 ghost use Rattle.text_lines.specs.Arguments.{texts};
 
 use crate::table::command_named;
@@ -16,7 +16,8 @@ use wide_fraction::{Limits, Top};
 
 /// The value of an option, or the first CONFIG word.
 fn value<'a>(matches: &ArgMatches<'a>, name: &str) -> Option<&'a str>
-    ensures { option_map (λ text. text.now) result ≡ option_value name.now (rows_found matches.now) }
+    ensures { option_map (λ text. text.now) result ≡
+        option_value name.now (rows_found matches.now) }
 {
     matches.get_str(name)
 }
@@ -102,7 +103,8 @@ pub(crate) fn may_number(
 
 /// The router ID of an option that must be given; None where it isn't a dotted quad.
 pub(crate) fn router(matches: &ArgMatches<'_>, name: &str) -> Option<u32>
-    ensures { result ≡ option_and_then numbers.quad (option_value name.now (rows_found matches.now)) }
+    ensures { result ≡ option_and_then numbers.quad
+        (option_value name.now (rows_found matches.now)) }
 {
     quad(value(matches, name)?.as_bytes())
 }

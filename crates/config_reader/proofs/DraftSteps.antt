@@ -17,10 +17,10 @@ use Rattle.config_reader.specs.Settings.{Said}
 use Rattle.config_reader.specs.Configs.{firsts}
 use Rattle.config_reader.specs.Drafting.{new_draft, touch, target, change, draft_with, draft_after, with_address}
 use Rattle.config_reader.specs.Gathered.{NamesApart, IsOpened, IsGathered}
-use Rattle.config_reader.specs.declared.reader.SaidLine.{SaidLine}
+use Rattle.config_reader.specs.declared.reader.Said.{Said as SpokenLine}
 use Rattle.config_reader.specs.Heards.{head_heard, said_of}
 use Rattle.config_reader.specs.declared.reader.NamedHead.{NamedHead}
-use Rattle.config_reader.proofs.LongerLists.{any-map}
+use Rattle.text_lines.proofs.Images.{any-map}
 use Rattle.config_reader.proofs.BlockFacts.{firsts-apart}
 use Rattle.config_reader.proofs.HeadSteps.{firsts-push, unless_known, is_headed}
 
@@ -153,7 +153,8 @@ opened_more heads i old new d within so_far drafts names = record {
     known : list_any (same_bytes head.name.now) old.names ≡ is_headed head.name.now (firsts [] hs)
     known = ap (list_any (same_bytes head.name.now)) so_far.names ∙ sym (any-map (same_bytes head.name.now) (λ (h : List ℕ × ℕ). h.0) (firsts [] hs))
 
-    firsts_now : firsts [] (map head_heard (take (i + 1) heads)) ≡ firsts [] hs ++ unless_known (list_any (same_bytes head.name.now) old.names) (head_heard head)
+    firsts_now : firsts [] (map head_heard (take (i + 1) heads)) ≡ firsts [] hs ++
+        unless_known (list_any (same_bytes head.name.now) old.names) (head_heard head)
     firsts_now = ap (firsts []) grown ∙ firsts-push [] hs (head_heard head) ∙ ap (λ b. firsts [] hs ++ unless_known b (head_heard head)) (sym known)
 
     drafts_by : (b : Bool) → list_any (same_bytes head.name.now) old.names ≡ b →
@@ -210,7 +211,7 @@ drop_past (x ∷ xs) zero past = absurd (omega arith)
 drop_past (x ∷ xs) (suc i) past = drop_past xs i (omega arith)
 
 -- one more line of those that are gone over
-pub gathered_more : (said : List SaidLine) (i : ℕ) (d : SaidLine) (nets : List NetworkLine) (old new : List Draft) →
+pub gathered_more : (said : List SpokenLine) (i : ℕ) (d : SpokenLine) (nets : List NetworkLine) (old new : List Draft) →
     i < length said → new ≡ map (draft_with nets (said_of (get_or said i d))) old →
     map (draft_after nets (map said_of (drop (i + 1) said))) new ≡ map (draft_after nets (map said_of (drop i said))) old
 gathered_more said i d nets old new within made =
@@ -220,13 +221,13 @@ gathered_more said i d nets old new within made =
     ∙ after_more nets (said_of (get_or said i d)) (map said_of (drop (suc i) said)) old
     ∙ ap (λ ls. map (draft_after nets (map said_of ls)) old) (sym (drop-cons said i d within))
 
-pub gathered_names : (said : List SaidLine) (i : ℕ) (d : SaidLine) (nets : List NetworkLine) (names : List (List ℕ))
+pub gathered_names : (said : List SpokenLine) (i : ℕ) (d : SpokenLine) (nets : List NetworkLine) (names : List (List ℕ))
     (old new : List Draft) → names ≡ names_of old → new ≡ map (draft_with nets (said_of (get_or said i d))) old →
     names ≡ names_of new
 gathered_names said i d nets names old new named made = named ∙ sym (ap names_of made ∙ names_kept nets (said_of (get_or said i d)) old)
 
 -- all lines are gone over
-pub gathered_all : (said : List SaidLine) (i : ℕ) (nets : List NetworkLine) (heads : List (List ℕ × ℕ))
+pub gathered_all : (said : List SpokenLine) (i : ℕ) (nets : List NetworkLine) (heads : List (List ℕ × ℕ))
     (opened d : Drafts) → length said ≤ i → IsOpened heads opened →
     map (draft_after nets (map said_of (drop i said))) d.drafts.items
     ≡ map (draft_after nets (map said_of said)) opened.drafts.items → d.names ≡ names_of d.drafts.items →

@@ -6,14 +6,14 @@ use Rattle.std.proofs.lemmas.Bool.{and_right}
 use Rattle.std.proofs.lemmas.List.{get_or_at, take_at}
 use Rattle.std.proofs.lemmas.List.Elements.{All-nil, All-cons, All-head, All-tail}
 use Rattle.cost_base.specs.Lists.{numbers_from, first_of}
-use Rattle.cost_base.proofs.ListLemmas.{append-none}
+use Rattle.cost_base.proofs.ListLemmas.{append-none, none_first}
 use Rattle.text_lines.specs.Lines.{words, kind_of}
 use Rattle.config_reader.specs.declared.fault.ConfigFault.{ConfigFault}
 use Rattle.config_reader.specs.declared.fault.ConfigFault.TheVariants.{LongLine, BadName}
 use Rattle.config_reader.specs.Statements.{Statement, Block, Network}
 use Rattle.config_reader.specs.Settings.{Said, said, said_at_place, networks_said}
 use Rattle.config_reader.specs.Configs.{first_heads}
-use Rattle.config_reader.specs.Faults.{router_name_said, is_router_name}
+use Rattle.config_reader.specs.RouterNames.{router_name_said, is_router_name}
 use Rattle.config_reader.specs.FaultList.{Fault, at_line, long_line, is_short, read_line, read_lines, refused, second_address, area_twice, bad_name, faults_of_place, faults}
 use Rattle.config_reader.specs.Reading.{open_block}
 use Rattle.config_reader.specs.Drafting.{earliest, name_fault, name_from}
@@ -188,10 +188,6 @@ module _ (file_name : List ℕ) (file : List (List ℕ)) where
         ∙ ap (λ n. flat_map (faults_of_place file_name file) (numbers_from n (length rest))) (sym (one_more front line))
         ∙ none_from good rest (front ++ line ∷ []) (split ∙ sym (append_assoc front (line ∷ []) rest)) all.1
 
-no_first : {X : Type 0} (xs : List X) → first_of xs ≡ None → xs ≡ []
-no_first [] none = refl
-no_first (x ∷ xs) none = absurd (cc)
-
 later_none : (a b : Option Fault) → earliest a b ≡ None → b ≡ None
 later_none None b e = e
 later_none (Some x) None e = refl
@@ -216,7 +212,7 @@ faultless file_name file none = record { fine = fine_from file_name file same fi
     parts : (filter_map (at_line 0) (bad_name (router_name_said file_name (read_lines file)) 0 ∷ []) ≡ [])
         × (flat_map (faults_of_place file_name file) (numbers_from 0 (length file)) ≡ [])
     parts = append-none (filter_map (at_line 0) (bad_name (router_name_said file_name (read_lines file)) 0 ∷ []))
-        (flat_map (faults_of_place file_name file) (numbers_from 0 (length file))) (no_first (faults file_name file) none)
+        (flat_map (faults_of_place file_name file) (numbers_from 0 (length file))) (none_first (faults file_name file) none)
 
     lines : flat_map (faults_of_place file_name file) (numbers_from 0 (length file)) ≡ []
     lines = parts.1

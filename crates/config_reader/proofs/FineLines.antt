@@ -44,7 +44,8 @@ module _ (second : Block → Statement → Option ConfigFault) (twice : List Net
     pub short : is_short line ≡ true
     pub own : refused (statement_by (kind_of line) (open_block front) (words line)) ≡ None
     pub address : second (block_by (kind_of line) (open_block front)) (statement_by (kind_of line) (open_block front) (words line)) ≡ None
-    pub area : twice (networks_said (said front)) (block_by (kind_of line) (open_block front)) (statement_by (kind_of line) (open_block front) (words line)) ≡ None
+    pub area : twice (networks_said (said front)) (block_by (kind_of line) (open_block front)) (statement_by (kind_of line) (open_block front) (words line)) ≡
+        None
 
   abbrev pub AllFine : List (List ℕ) → List (List ℕ) → Type 0
   AllFine front [] = Unit {0}

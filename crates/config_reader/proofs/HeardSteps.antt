@@ -20,7 +20,7 @@ use Rattle.config_reader.specs.declared.fault.ConfigFault.TheVariants.{LongLine}
 use Rattle.config_reader.specs.Statements.{Statement, AddressIs, AreaIs, CostIs, KindIs, PriorityIs, PassiveIs, DownIs, RouterIdIs, NetworkIs, PassiveInterfaceIs, Refused, Unread, Block, OfOther, block_of, statement_in, head_statement, begin_with, word_at}
 use Rattle.config_reader.specs.Settings.{Said, said, said_at_place, said_by}
 use Rattle.config_reader.specs.Configs.{opened_at, name_with_line, name_opened}
-use Rattle.config_reader.specs.Faults.{is_hostname_head, last_hostname}
+use Rattle.config_reader.specs.RouterNames.{is_hostname_head, last_hostname}
 use Rattle.config_reader.specs.FaultList.{at_line, long_line, refused, read_line, read_lines, is_short}
 use Rattle.config_reader.specs.Hearing.{Heard, sets, hear, hear_kind, hear_statement, with_fault, heard, named_by, own_fault}
 use Rattle.config_reader.specs.Reading.{open_block}

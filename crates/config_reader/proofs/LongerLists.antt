@@ -1,12 +1,11 @@
 -- Lists read by places, and lists with one more element.
-use Rattle.std.proofs.Common.{◌≡◌, ℕ, zero, suc, ◌+◌, ◌<◌, ◌≤◌, List, [], ◌∷◌, ◌++◌, Bool, cond, true, false, refl, sym, ap, ◌∙◌, arith, map, Option, Some, None, get_or, length, not, ltb, append-nil}
-use Rattle.std.specs.List.{filter, filter_map, cons_option, list_any, position_or_len}
-use Rattle.std.specs.Prelude.{slice_get, position}
-use Rattle.std.proofs.lemmas.List.{map-append, length-map}
-use Rattle.std.proofs.lemmas.List.Recursion.{is_position_or_len}
+use Rattle.std.proofs.Common.{◌≡◌, ℕ, zero, suc, ◌+◌, ◌<◌, ◌≤◌, List, [], ◌∷◌, ◌++◌, Bool, cond, true, false, refl, sym, ap, ◌∙◌, arith, map, Option, Some, None, get_or, length, append-nil}
+use Rattle.std.specs.List.{filter, filter_map, cons_option}
+use Rattle.std.specs.Prelude.{slice_get}
+use Rattle.std.proofs.lemmas.List.{map-append}
 use Rattle.std.proofs.lemmas.List.Elements.{filter-append, filter_map-append}
 use Rattle.cost_base.specs.Lists.{numbers_from, last_of}
-use Rattle.cost_base.proofs.ListLemmas.{map-numbers_from-agree, filter-numbers_from-agree, numbers_from-more, list_any-map}
+use Rattle.cost_base.proofs.ListLemmas.{map-numbers_from-agree, filter-numbers_from-agree, numbers_from-more}
 
 pub filter_map-numbers_agree : {X : Type 0} (f g : ℕ → Option X) (a n : ℕ) → ((i : ℕ) → a ≤ i → i < a + n → f i ≡ g i) →
     filter_map f (numbers_from a n) ≡ filter_map g (numbers_from a n)
@@ -80,32 +79,3 @@ pub slice_get-within : {X : Type 0} (xs : List X) (k : ℕ) (d : X) → k < leng
 slice_get-within [] k d within = absurd (omega arith)
 slice_get-within (x ∷ xs) zero d within = refl
 slice_get-within (x ∷ xs) (suc k) d within = slice_get-within xs k d (omega arith)
-
--- a place among images
-place-map : {X Y : Type 0} (p : Y → Bool) (g : X → Y) (xs : List X) → position_or_len p (map g xs) ≡ position_or_len (λ x. p (g x)) xs
-place-map {X} {Y} p g xs = is_position_or_len (λ (ys : List X). position_or_len p (map g ys)) (λ x. p (g x)) refl
-    (λ x ys. cases (p (g x)) (position_or_len p (map g ys))) xs
-  where
-    cases : (b : Bool) (n : ℕ) → cond (not b) (1 + n) 0 ≡ cond b 0 (1 + n)
-    cases true n = refl
-    cases false n = refl
-
-pub position-map : {X Y : Type 0} (p : Y → Bool) (g : X → Y) (xs : List X) → position (λ x. p (g x)) xs ≡ position p (map g xs)
-position-map p g xs =
-    ap (λ k. cond (ltb k (length xs)) (Some k) None) (sym (place-map p g xs))
-    ∙ ap (λ n. cond (ltb (position_or_len p (map g xs)) n) (Some (position_or_len p (map g xs))) None) (sym (length-map xs g))
-
-pub any-map : {X Y : Type 0} (p : Y → Bool) (g : X → Y) (xs : List X) → list_any (λ x. p (g x)) xs ≡ list_any p (map g xs)
-any-map p g xs = sym (list_any-map p g xs)
-
--- images of elements, with one more where none passes
-pub map-unless : {X Y : Type 0} (p : Y → Bool) (g : X → Y) (xs : List X) (x : X) →
-    map g (cond (list_any (λ x. p (g x)) xs) xs (xs ++ x ∷ [])) ≡ cond (list_any p (map g xs)) (map g xs)
-    (map g xs ++ g x ∷ [])
-map-unless p g xs x = cases (list_any (λ x. p (g x)) xs) (list_any p (map g xs)) (any-map p g xs)
-  where
-    cases : (a b : Bool) → a ≡ b → map g (cond a xs (xs ++ x ∷ [])) ≡ cond b (map g xs) (map g xs ++ g x ∷ [])
-    cases true true e = refl
-    cases false false e = map-append g xs (x ∷ [])
-    cases true false e = absurd (cc)
-    cases false true e = absurd (cc)

@@ -19,7 +19,7 @@ use Rattle.interface_model.specs.Records.{IsInterface, IsRouter}
 use Rattle.config_reader.specs.Statements.{Statement, AddressIs, AreaIs, CostIs, KindIs, PriorityIs, PassiveIs, DownIs, RouterIdIs, NetworkIs, PassiveInterfaceIs, Refused, Unread, Block, OfInterface, OfRouter, OfOther, block_of, head_statement, interface_statement, router_statement, address_statement, area_statement, cost_statement, priority_statement, network_statement, router_id_statement, alone, begin_with}
 use Rattle.config_reader.specs.Settings.{Said, said, said_by, about, is_of, interface_as_set, address_said, cost_set, length_part}
 use Rattle.config_reader.specs.Configs.{config_of, first_heads, opened_at, name_with_line, name_opened}
-use Rattle.config_reader.specs.Faults.{is_name_byte, is_router_name, router_name_said}
+use Rattle.config_reader.specs.RouterNames.{is_name_byte, is_router_name, router_name_said}
 use Rattle.config_reader.specs.Reading.{open_block}
 use Rattle.config_reader.proofs.SaidSteps.{said_after, said-push, opened_from}
 use Rattle.config_reader.proofs.SettingSteps.{about-push, said_where}

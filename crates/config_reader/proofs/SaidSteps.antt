@@ -9,7 +9,7 @@ use Rattle.text_lines.specs.Lines.{words, kind_of, is_head}
 use Rattle.config_reader.specs.Statements.{block_of, begin_with, word_at}
 use Rattle.config_reader.specs.Settings.{Said, said, said_at_place, said_by, block_by_head}
 use Rattle.config_reader.specs.Configs.{opened_at, name_with_line, name_opened}
-use Rattle.config_reader.specs.Faults.{is_hostname_head, last_hostname, name_and_line, router_name_said}
+use Rattle.config_reader.specs.RouterNames.{is_hostname_head, last_hostname, name_and_line, router_name_said}
 use Rattle.config_reader.proofs.LongerLists.{map-numbers_more, filter_map-numbers_more, filter-numbers_same, last_passing-lt}
 
 -- what a line says at a place, behind a head

@@ -8,9 +8,9 @@ use Rattle.config_reader.specs.declared.fault.ConfigFault.TheVariants.{SecondAdd
 use Rattle.config_reader.specs.Statements.{Statement, AddressIs, NetworkIs, Network, Block, OfInterface, OfRouter}
 use Rattle.config_reader.specs.Settings.{Said, said, about, about_router, setting, networks_said, network_said, address_said, area_set, interface_address, matches}
 use Rattle.config_reader.specs.Configs.{first_heads}
-use Rattle.config_reader.specs.Faults.{router_name_said, is_router_name}
+use Rattle.config_reader.specs.RouterNames.{router_name_said, is_router_name}
 use Rattle.config_reader.specs.FaultList.{is_given_area, differs, second_address, area_twice, is_other_area, address_by_networks}
-use Rattle.config_reader.proofs.LongerLists.{any-map}
+use Rattle.text_lines.proofs.Images.{any-map}
 use Rattle.config_reader.proofs.BlockFacts.{head_names}
 use Rattle.config_reader.proofs.FineLines.{AllFine}
 use Rattle.config_reader.proofs.FaultlessFiles.{Faultless}

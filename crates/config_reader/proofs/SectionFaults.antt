@@ -14,7 +14,7 @@ use Rattle.text_lines.proofs.WordLists.{room}
 use Rattle.config_reader.specs.Statements.{Statement, CostIs, Block, OfInterface, OfRouter, OfOther, block_of, begin_with, statement_in}
 use Rattle.config_reader.specs.Settings.{said, networks_said, about, about_router, address_said, area_set, is_of, is_of_router}
 use Rattle.config_reader.specs.Configs.{first_heads, name_with_line, name_opened}
-use Rattle.config_reader.specs.Faults.{router_name_said, is_router_name}
+use Rattle.config_reader.specs.RouterNames.{router_name_said, is_router_name}
 use Rattle.config_reader.specs.FaultList.{is_short, refused, second_address, area_twice, config_fault, faults}
 use Rattle.config_reader.specs.Sections.{config_section_lines, IsSectionCost, name_line, section_cost_line}
 use Rattle.config_reader.proofs.SaidSteps.{said_after, said-push, names_router, router_name-push}

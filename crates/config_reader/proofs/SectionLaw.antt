@@ -15,7 +15,7 @@ use Rattle.interface_model.specs.Records.{Router}
 use Rattle.config_reader.specs.Statements.{CostIs, OfInterface, OfOther, block_of, cost_statement, interface_statement, statement_in}
 use Rattle.config_reader.specs.Settings.{Said, said, block_by_head, about_router, setting, router_id_said, interface_as_set, is_of, is_of_router}
 use Rattle.config_reader.specs.Configs.{config_of, first_heads, name_with_line, name_opened}
-use Rattle.config_reader.specs.Faults.{router_name_said}
+use Rattle.config_reader.specs.RouterNames.{router_name_said}
 use Rattle.config_reader.specs.Sections.{config_section_lines, with_cost, with_costs, IsSectionCost, name_line, section_cost_line}
 use Rattle.config_reader.proofs.SaidSteps.{said_after, said-push, names_router, router_name-push, opened_from}
 use Rattle.config_reader.proofs.SettingSteps.{interface_of-other, interface_of-cost, about_router-push, said_where}
@@ -64,7 +64,8 @@ unfolding router_by
 router_by-cost name all s heads interface n block cost =
     cc (
       router_id_kept all s (ap is_of_router block),
-      map-agree (λ head. interface_as_set (all ++ s ∷ []) head.0 head.1) (λ head. with_cost ((interface, n) ∷ []) (interface_as_set all head.0 head.1)) heads one,
+      map-agree (λ head. interface_as_set (all ++ s ∷ []) head.0 head.1) (λ head. with_cost ((interface, n) ∷ []) (interface_as_set all head.0 head.1)) heads
+          one,
       map-map (with_cost ((interface, n) ∷ [])) (λ head. interface_as_set all head.0 head.1) heads,
     )
   where
@@ -140,7 +141,8 @@ cost_said_there n from to =
 
 -- a cost line behind the head of its interface sets the cost
 pub after_cost : (file_name : List ℕ) (file : List (List ℕ)) (name : List ℕ) (n : ℕ) → IsOneWord name → 1 ≤ n → n ≤ 65535 →
-    (router_of file_name ((file ++ name_line name ∷ []) ++ section_cost_line n ∷ []) ≡ with_costs ((name, n) ∷ []) (router_of file_name (file ++ name_line name ∷ [])))
+    (router_of file_name ((file ++ name_line name ∷ []) ++ section_cost_line n ∷ []) ≡
+    with_costs ((name, n) ∷ []) (router_of file_name (file ++ name_line name ∷ [])))
     × (first_heads ((file ++ name_line name ∷ []) ++ section_cost_line n ∷ []) ≡ first_heads (file ++ name_line name ∷ []))
 after_cost file_name file name n one from to =
     (router_of-cost file_name (file ++ name_line name ∷ []) (section_cost_line n) name n (block_behind file name one) cost refl heads, heads)

@@ -6,7 +6,7 @@ use Rattle.std.specs.Option.{option_or}
 use Rattle.std.proofs.lemmas.List.{map-append}
 use Rattle.std.proofs.lemmas.List.Elements.{filter-append, filter_map-append}
 use Rattle.cost_base.specs.Lists.{last_of, first_of, same_bytes}
-use Rattle.cost_base.proofs.ListLemmas.{last_of-push, first_of-push_option, option_or-none}
+use Rattle.cost_base.proofs.ListLemmas.{last_of-push, option_or-none, first_of-filter_map-push}
 use Rattle.text_lines.specs.Numbers.{Prefix}
 use Rattle.interface_model.specs.declared.Interface.{Interface}
 use Rattle.interface_model.specs.declared.Kind.{Kind}
@@ -50,11 +50,6 @@ setting-push {X} pick own s = ap last_of (filter_map-append pick own (s ∷ []))
     cases None xs = ap last_of (append-nil xs)
     cases (Some x) xs = last_of-push xs x
 
--- the first of a kind, with one more statement
-pub first_said-push : {X : Type 0} (pick : Statement → Option X) (own : List Statement) (s : Statement) →
-    first_of (filter_map pick (own ++ s ∷ [])) ≡ option_or (first_of (filter_map pick own)) (pick s)
-first_said-push pick own s = ap first_of (filter_map-append pick own (s ∷ [])) ∙ first_of-push_option (pick s) (filter_map pick own)
-
 -- the area of an interface: of its own line, or of the `network` lines that match its address
 abbrev pub area_from : Option ℕ → Option Prefix → List Network → Option ℕ
 area_from own None networks = option_or own None
@@ -81,7 +76,7 @@ pub by_said-push : {X : Type 0} (make : Made X) (own : List Statement) (s : Stat
     by_said make (own ++ s ∷ []) ≡ by_one_more make (option_or (first_of (filter_map address_said own)) (address_said s)) own s
 by_said-push {X} make own s =
     cc (
-      first_said-push address_said own s,
+      first_of-filter_map-push address_said own s,
       setting-push area_set own s,
       setting-push cost_set own s,
       setting-push kind_said own s,
@@ -109,7 +104,8 @@ interface_by router name line address area cost kind passive down priority = rec
 unfoldable pub interface_from : List Statement → List Statement → List ℕ → ℕ → Interface
 interface_from own router name line = by_said (interface_by router name line) own
 
-pub interface_of-from : (all : List Said) (name : List ℕ) (line : ℕ) → interface_as_set all name line ≡ interface_from (about all name) (about_router all) name line
+pub interface_of-from : (all : List Said) (name : List ℕ) (line : ℕ) →
+    interface_as_set all name line ≡ interface_from (about all name) (about_router all) name line
 unfolding interface_from interface_by
 interface_of-from all name line =
     ap (λ (area : Option ℕ). record (interface_as_set all name line) { area = area })

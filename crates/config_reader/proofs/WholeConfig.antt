@@ -5,7 +5,7 @@ use Rattle.text_lines.specs.Lines.{lines}
 use Rattle.interface_model.specs.declared.Interface.{Interface}
 use Rattle.interface_model.specs.Records.{Router}
 use Rattle.config_reader.specs.declared.reader.Parts.{Parts}
-use Rattle.config_reader.specs.declared.reader.SaidLine.{SaidLine}
+use Rattle.config_reader.specs.declared.reader.Said.{Said as SpokenLine}
 use Rattle.config_reader.specs.declared.drafts.Drafts.{Drafts}
 use Rattle.config_reader.specs.declared.networks.NetworkLine.{NetworkLine}
 use Rattle.config_reader.specs.Settings.{Said}
@@ -105,7 +105,7 @@ read_is file_name bytes p nets d name f parts found gathered named same_name = r
 
 -- the router of these lines and drafts, where no fault is found
 pub config_as : (file_name bytes : List ℕ) (p : Parts) (nets : List NetworkLine) (d : Drafts) (name : List ℕ × ℕ) →
-    IsRead file_name bytes p nets d name → (three : List SaidLine) → three ≡ p.said.items →
+    IsRead file_name bytes p nets d name → (three : List SpokenLine) → three ≡ p.said.items →
     found_among p nets d name ≡ None →
     IsConfig file_name bytes (record {
       name = name.0;
@@ -113,7 +113,7 @@ pub config_as : (file_name bytes : List ℕ) (p : Parts) (nets : List NetworkLin
       interfaces = map (finished nets) d.drafts.items;
     })
 config_as file_name bytes p nets d name read three same_three none =
-    subst (λ (ls : List SaidLine). IsConfig file_name bytes (record {
+    subst (λ (ls : List SpokenLine). IsConfig file_name bytes (record {
       name = name.0;
       router_id = id_after None (map said_of ls);
       interfaces = map (finished nets) d.drafts.items;

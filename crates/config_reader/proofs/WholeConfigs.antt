@@ -47,7 +47,8 @@ nets_law (s ∷ all) = by s.block s.statement (nets_law all)
     by OfRouter (Refused fault) more = more
     by OfRouter Unread more = more
 
-nets-push : (all : List Said) (s : Said) → networks_said (all ++ s ∷ []) ≡ networks_said all ++ map net_of (cons_option (network_line s.number s.block s.statement) [])
+nets-push : (all : List Said) (s : Said) → networks_said (all ++ s ∷ []) ≡ networks_said all ++
+    map net_of (cons_option (network_line s.number s.block s.statement) [])
 nets-push all s =
     nets_law (all ++ s ∷ [])
     ∙ ap (map net_of) (filter_map-append (λ (t : Said). network_line t.number t.block t.statement) all (s ∷ []))

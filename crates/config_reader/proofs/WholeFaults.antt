@@ -21,13 +21,14 @@ use Rattle.config_reader.specs.declared.networks.NetworkLine.{NetworkLine}
 use Rattle.config_reader.specs.Statements.{Statement, AddressIs, Block, OfInterface}
 use Rattle.config_reader.specs.Settings.{Said, said, said_at_place, said_by, block_by_head, about, setting, area_set, address_said, interface_address, networks_said, matches, address_part, length_part}
 use Rattle.config_reader.specs.Configs.{first_heads}
-use Rattle.config_reader.specs.Faults.{router_name_said, name_and_line, last_hostname, is_hostname_head, is_router_name}
+use Rattle.config_reader.specs.RouterNames.{router_name_said, name_and_line, last_hostname, is_hostname_head, is_router_name}
 use Rattle.config_reader.specs.FaultList.{Fault, at_line, long_line, refused, read_lines, is_given_area, differs, second_address, area_twice, bad_name, faults_of_place, faults}
 use Rattle.config_reader.specs.Hearing.{heard, sets, named_by}
 use Rattle.config_reader.specs.Drafting.{network_lines, covers, whole_address, at_place, find_draft, is_second, second_of, first_second, first_clash, earliest, name_from, name_fault}
 use Rattle.config_reader.proofs.FirstFaults.{firsts_at, bound, merge, agree, never, met_at, past_all, first_flat, first_five, first_front, first_filtered, filter_map-map}
 use Rattle.config_reader.proofs.DraftLaws.{draft_of, plain, plain_by, any_matched}
-use Rattle.config_reader.proofs.LongerLists.{any-map, last_passing-lt}
+use Rattle.text_lines.proofs.Images.{any-map}
+use Rattle.config_reader.proofs.LongerLists.{last_passing-lt}
 use Rattle.config_reader.proofs.BlockFacts.{about-unheaded, head_names}
 use Rattle.config_reader.proofs.HeadSteps.{is_headed}
 use Rattle.config_reader.proofs.HeardSteps.{length-read_lines}
@@ -79,7 +80,8 @@ module _ (all : List Said) (heads : List (List ℕ × ℕ)) (unheaded : (name : 
           ≡ (is_given_area all name && differs p (interface_address all name))
       cases None e =
           let none : about all name ≡ [] = unheaded name (headed_names name heads ∙ no_place (same_bytes name) (head_names heads) e) in
-          sym (and_right (is_given_area all name) (differs p (interface_address all name)) (ap (λ own. differs p (first_of (filter_map address_said own))) none))
+          sym (and_right (is_given_area all name) (differs p (interface_address all name))
+          (ap (λ own. differs p (first_of (filter_map address_said own))) none))
       cases (Some i) e =
           let found = position-Some (same_bytes name) (head_names heads) i [] e in
           let within : i < length heads = omega (arith, found.0, length-map heads (λ (h : List ℕ × ℕ). h.0)) in

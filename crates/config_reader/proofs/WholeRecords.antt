@@ -7,7 +7,7 @@ use Rattle.std.proofs.lemmas.Bool.{false≢true, and_parts}
 use Rattle.std.proofs.lemmas.List.Folds.{list_all-append}
 use Rattle.std.proofs.lemmas.Simd.{map-map}
 use Rattle.cost_base.specs.Lists.{first_of, last_of}
-use Rattle.cost_base.proofs.ListLemmas.{map-agree, option_or-none}
+use Rattle.cost_base.proofs.ListLemmas.{map-agree, option_or-none, option_or-parts}
 use Rattle.text_lines.specs.Lines.{lines}
 use Rattle.text_lines.specs.Numbers.{Prefix}
 use Rattle.interface_model.specs.declared.Interface.{Interface}
@@ -19,7 +19,7 @@ use Rattle.config_reader.specs.declared.networks.NetworkLine.{NetworkLine}
 use Rattle.config_reader.specs.Statements.{Statement, AddressIs, AreaIs, CostIs, KindIs, PriorityIs, PassiveIs, DownIs, RouterIdIs, NetworkIs, PassiveInterfaceIs, Refused, Unread, Network, Block, OfInterface, OfRouter, OfOther}
 use Rattle.config_reader.specs.Settings.{Said, said, about, about_router, setting, area_set, router_id_said, interface_address, matches, interface_as_set, area_by_networks}
 use Rattle.config_reader.specs.Configs.{first_heads, firsts, config_of}
-use Rattle.config_reader.specs.Faults.{router_name_said, is_router_name}
+use Rattle.config_reader.specs.RouterNames.{router_name_said, is_router_name}
 use Rattle.config_reader.specs.FaultList.{Fault, at_line, long_line, refused, read_line, read_lines, is_short, config_fault}
 use Rattle.config_reader.specs.Hearing.{heard, sets}
 use Rattle.config_reader.specs.Drafting.{network_line, network_lines, covers, area_among, area_for, finished, new_draft, draft_after, first_second, first_clash, earliest, router_id_set, id_after, name_from, name_fault}
@@ -115,10 +115,6 @@ ids_law : (all : List Said) → id_after None (filter (λ s. sets s.statement) a
 ids_law all = ids_along all None ∙ option_or-none (setting router_id_said (about_router all))
 
 -- no fault of its own on any line: no line is too long
-either_none : (o p : Option Fault) → option_or o p ≡ None → (o ≡ None) × (p ≡ None)
-either_none None p e = (refl, e)
-either_none (Some x) p e = absurd (cc)
-
 earliest_parts : (o p : Option Fault) → earliest o p ≡ None → (o ≡ None) × (p ≡ None)
 earliest_parts None p e = (refl, e)
 earliest_parts (Some x) None e = absurd (cc)
@@ -141,7 +137,7 @@ all_short = by_lines (λ file. (heard file).fault ≡ None → list_all is_short
         parts : ((heard file).fault ≡ None)
             × (at_line (length file + 1)
             (option_or (long_line line) (refused (said_after (read_lines file) (read_line line)).statement)) ≡ None)
-        parts = either_none (heard file).fault
+        parts = option_or-parts (heard file).fault
             (at_line (length file + 1)
             (option_or (long_line line) (refused (said_after (read_lines file) (read_line line)).statement)))
             (sym (fault-push file line) ∙ none)

@@ -12,19 +12,19 @@ use Rattle.config_reader.specs.declared.networks.NetworkLine.{NetworkLine}
 use Rattle.config_reader.specs.declared.drafts.Draft.{Draft}
 use Rattle.config_reader.specs.Statements.{Statement, AddressIs, AreaIs, CostIs, KindIs, PriorityIs, PassiveIs, DownIs, RouterIdIs, NetworkIs, PassiveInterfaceIs, Block, OfInterface, OfRouter, OfOther}
 use Rattle.config_reader.specs.Settings.{Said}
-use Rattle.config_reader.specs.Faults.{before_first_dot, after_last_slash, is_router_name}
+use Rattle.config_reader.specs.RouterNames.{before_first_dot, after_last_slash, is_router_name}
 use Rattle.config_reader.specs.FaultList.{Fault, differs}
 
--- a `network` line of a router block
+-- the `network` line that a statement of a router block is, with its number
 abbrev pub network_line : ℕ → Block → Statement → Option NetworkLine
 network_line n OfRouter (NetworkIs w) = Some (record { line = n; address = w.prefix.address; length = w.prefix.length; area = w.area })
 network_line n _ _ = None
 
--- the `network` lines of the router blocks, in order
+-- the `network` lines of the router blocks with their numbers, in order
 abbrev pub network_lines : List Said → List NetworkLine
 network_lines all = filter_map (λ s. network_line s.number s.block s.statement) all
 
--- a `network` line matches an address with its prefix length
+-- as `matches`, of a `network` line with its number
 abbrev pub covers : Prefix → NetworkLine → Bool
 covers p w = nat_le w.length p.length && contains w.address w.length p.address
 

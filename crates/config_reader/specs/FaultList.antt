@@ -11,7 +11,7 @@ use Rattle.config_reader.specs.declared.fault.ConfigFault.TheVariants.{LongLine,
 use Rattle.config_reader.specs.Statements.{Statement, AddressIs, NetworkIs, Refused, Network, Block, OfInterface, OfRouter}
 use Rattle.config_reader.specs.Settings.{Said, said, said_at_place, about, setting, area_set, address_said, interface_address, networks_said, matches}
 use Rattle.config_reader.specs.Configs.{first_heads}
-use Rattle.config_reader.specs.Faults.{is_router_name, router_name_said}
+use Rattle.config_reader.specs.RouterNames.{is_router_name, router_name_said}
 
 -- a fault, and its line; a name that is taken from the file's name has line 0
 pub record Fault : Type 0 where
@@ -77,7 +77,7 @@ area_twice all heads earlier _ _ = None
 abbrev pub bad_name : List ℕ × ℕ → ℕ → Option ConfigFault
 bad_name name line = if name.1 == line && not (is_router_name name.0) then Some BadName else None
 
--- the fault as one of the line of number n
+-- a fault, where there is one, as one of the line of number n
 abbrev pub at_line : ℕ → Option ConfigFault → Option Fault
 at_line n None = None
 at_line n (Some fault) = Some (record { line = n; fault = fault })

@@ -3,7 +3,7 @@ use Rattle.std.specs.Prelude.{ℕ}
 use Rattle.config_reader.specs.declared.fault.ConfigFault.{ConfigFault}
 use Rattle.config_reader.specs.declared.fault.ConfigFault.TheVariants.{LongLine, BadAddress, BadNumber, BadArea, Unsupported, SecondAddress, AreaTwice, BadName}
 
--- the number of a fault
+-- the number of a fault of a configuration
 abbrev pub config_fault_number : ConfigFault → ℕ
 config_fault_number LongLine = 1
 config_fault_number BadAddress = 2

@@ -1,6 +1,6 @@
 -- What the code's reader keeps. No public clause cites it.
 use Rattle.std.specs.Prelude.{ℕ, List}
-use Rattle.config_reader.specs.declared.reader.SaidLine.{SaidLine}
+use Rattle.config_reader.specs.declared.reader.Said.{Said as SpokenLine}
 use Rattle.config_reader.specs.declared.reader.NamedHead.{NamedHead}
 use Rattle.config_reader.specs.declared.reader.LineFault.{LineFault}
 use Rattle.config_reader.specs.Settings.{Said}
@@ -8,7 +8,7 @@ use Rattle.config_reader.specs.FaultList.{Fault}
 use Rattle.config_reader.specs.Spoken.{statement_of, block_spoken}
 
 -- what a line that the reader keeps says
-abbrev pub said_of : SaidLine → Said
+abbrev pub said_of : SpokenLine → Said
 said_of s = record { number = s.number; block = block_spoken s.block; statement = statement_of s.statement }
 
 -- a head of an interface that the reader keeps: its name and its line

@@ -10,11 +10,12 @@ use Rattle.config_reader.specs.declared.fault.ConfigFault.{ConfigFault}
 use Rattle.config_reader.specs.Statements.{Statement, Refused, Unread, Block, OfOther, block_of, statement_in, head_statement, begin_with, word_at}
 use Rattle.config_reader.specs.Settings.{Said, said, said_at_place}
 use Rattle.config_reader.specs.Configs.{opened_at, name_with_line, name_opened}
-use Rattle.config_reader.specs.Faults.{last_hostname}
+use Rattle.config_reader.specs.RouterNames.{last_hostname}
 use Rattle.config_reader.specs.FaultList.{Fault, at_line, long_line, refused, read_lines}
 use Rattle.config_reader.specs.Reading.{open_block}
 
--- the settings that were said, the heads of interfaces, the last `hostname` head, the first faulty line by itself and the open block
+-- the settings that were said, the heads of interfaces, the last `hostname` head, the first faulty line by itself and
+-- the open block
 pub record Heard : Type 0 where
   pub said : List Said
   pub heads : List (List ℕ × ℕ)

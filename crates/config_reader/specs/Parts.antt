@@ -5,7 +5,8 @@ use Rattle.config_reader.specs.declared.reader.Parts.{Parts}
 use Rattle.config_reader.specs.Hearing.{Heard}
 use Rattle.config_reader.specs.Heards.{said_of, head_heard, fault_heard}
 
--- the parts that the code hands on are those that were kept of the file
+-- the reader's parts are what was heard of a configuration: what its lines say, its heads, its hostname and its first
+-- fault
 pub record IsParts (h : Heard) (p : Parts) : Type 0 where
   pub said : map said_of p.said.items ≡ h.said
   pub heads : map head_heard p.heads.items ≡ h.heads

@@ -44,7 +44,8 @@ pub record IsSectionCost (file : List (List ℕ)) (cost : List ℕ × ℕ) : Typ
   pub from : 1 ≤ cost.1
   pub to : cost.1 ≤ 65535
 
--- a configuration with a section after it says the same, but for the costs of the section; and it is accepted where it was
+-- a configuration with a section after it says the same, but for the costs of the section; and it is accepted where it
+-- was
 abbrev pub SectionsSetCosts : Type 0
 SectionsSetCosts =
     (file_name bytes : List ℕ) (costs : List (List ℕ × ℕ)) → All (IsSectionCost (lines bytes)) costs →

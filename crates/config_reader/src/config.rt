@@ -15,7 +15,7 @@ use crate::ConfigFault;
 use crate::drafts::{Drafts, finish};
 use crate::faults::{area_twice, earliest, name_fault, router_id, router_name, second_address};
 use crate::networks::Networks;
-use crate::reader::{LineFault, NamedHead, Parts, SaidLine, read_parts};
+use crate::reader::{LineFault, NamedHead, Parts, Said, read_parts};
 use cost_base::{Listed, Name, Refusal};
 use interface_model::{Interface, RouterConfig};
 use std::alloc::Global;
@@ -70,7 +70,7 @@ fn assemble(
 fn made(
     alloc: Global,
     name: &[u8],
-    said: &[SaidLine<'_>],
+    said: &[Said<'_>],
     networks: &Networks,
     drafts: Drafts<'_>,
 ) -> Result<RouterConfig, Refusal<ConfigFault>>
@@ -115,10 +115,7 @@ fn checked<'a>(
     if let Some(fault) = first_fault(parts, networks, &drafts, name) {
         // For the prover alone: a call drops them, so that their parts' drops aren't written out at each exit.
         drop(drafts);
-        return Err(Refusal::Refused {
-            fault: fault.fault,
-            place: fault.line,
-        });
+        return Err(Refusal::at(fault.line, fault.fault));
     }
     made(alloc, name.name, &parts.said, networks, drafts)
 }

@@ -8,13 +8,13 @@ ghost use Rattle.config_reader.specs.Spoken.{statement_of, block_spoken};
 ghost use Rattle.config_reader.specs.Heards.{said_of, head_heard};
 ghost use Rattle.config_reader.specs.Drafting as drafting;
 
-use crate::names::Names;
 use crate::networks::Networks;
-use crate::reader::{NamedHead, SaidLine};
+use crate::reader::{NamedHead, Said};
 use crate::statements::{AddressPrefix, Block, Statement};
 use cost_base::{Name, OutOfMemory};
 use interface_model::{Interface, Kind};
 use std::alloc::Global;
+use text_lines::Names;
 
 /// An interface with what its blocks say; whether a `network` line matches one of its addresses, and whether a router
 /// block makes it passive.
@@ -93,7 +93,7 @@ fn is_matched(networks: &Networks, statement: Statement<'_>) -> bool
 }
 
 /// The name of the interface that a line is about.
-fn target<'a>(said: &SaidLine<'a>) -> Option<&'a [u8]>
+fn target<'a>(said: &Said<'a>) -> Option<&'a [u8]>
     ensures { option_map (λ name. name.now) result ≡ drafting.target (block_spoken said.now.block)
         (statement_of said.now.statement) }
 {
@@ -105,7 +105,7 @@ fn target<'a>(said: &SaidLine<'a>) -> Option<&'a [u8]>
 }
 
 /// Adds to a draft what a line about it says.
-fn change(draft: &mut Draft, said: &SaidLine<'_>, networks: &Networks)
+fn change(draft: &mut Draft, said: &Said<'_>, networks: &Networks)
     ensures { draft.new ≡ drafting.change networks.now (block_spoken said.now.block)
         (statement_of said.now.statement) draft.old }
 {
@@ -154,7 +154,7 @@ impl<'a> Drafts<'a> {
     pub(crate) fn gather(
         alloc: Global,
         heads: &[NamedHead<'a>],
-        said: &[SaidLine<'a>],
+        said: &[Said<'a>],
         networks: &Networks,
     ) -> Result<Drafts<'a>, OutOfMemory>
         ensures { IfOk result (IsGathered networks.now (map head_heard heads.now)
@@ -178,7 +178,7 @@ impl<'a> Drafts<'a> {
 }
 
 /// Adds what a line says to the draft that it is about, if any.
-fn settle<'a>(names: &Names<'a>, drafts: &mut Vec<Draft>, said: &SaidLine<'a>, networks: &Networks)
+fn settle<'a>(names: &Names<'a>, drafts: &mut Vec<Draft>, said: &Said<'a>, networks: &Networks)
     requires names { names.now ≡ map (λ d. d.interface.name) drafts.old.items }
     requires apart { NamesApart names.now }
     ensures { drafts.new.items ≡ map (drafting.draft_with networks.now (said_of said.now))

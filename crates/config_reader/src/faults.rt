@@ -8,7 +8,7 @@ ghost use Rattle.config_reader.specs.Drafting as drafting;
 use crate::ConfigFault;
 use crate::drafts::{Draft, Drafts};
 use crate::networks::Networks;
-use crate::reader::{LineFault, NamedHead, SaidLine};
+use crate::reader::{LineFault, NamedHead, Said};
 use crate::router_names::{is_router_name, name_of_file};
 use crate::statements::{AddressPrefix, Block, Statement};
 
@@ -36,7 +36,7 @@ fn is_other_address(draft: &Draft, address: AddressPrefix) -> bool
 }
 
 /// Whether a line gives an interface with an area a different second address.
-fn is_second<'a>(drafts: &Drafts<'a>, said: &SaidLine<'a>) -> bool
+fn is_second<'a>(drafts: &Drafts<'a>, said: &Said<'a>) -> bool
     requires { drafts.now.names ≡ map (λ d. d.interface.name) drafts.now.drafts.items }
     ensures { result ≡ drafting.second_in drafts.now.drafts.items (block_spoken said.now.block)
         (statement_of said.now.statement) }
@@ -51,7 +51,7 @@ fn is_second<'a>(drafts: &Drafts<'a>, said: &SaidLine<'a>) -> bool
 }
 
 /// The first line that gives an interface with an area a different second address.
-pub(crate) fn second_address<'a>(drafts: &Drafts<'a>, said: &[SaidLine<'a>]) -> Option<LineFault>
+pub(crate) fn second_address<'a>(drafts: &Drafts<'a>, said: &[Said<'a>]) -> Option<LineFault>
     requires { drafts.now.names ≡ map (λ d. d.interface.name) drafts.now.drafts.items }
     ensures { option_map fault_heard result ≡ drafting.first_second drafts.now.drafts.items
         (map said_of said.now) }
@@ -97,7 +97,7 @@ pub(crate) fn area_twice(drafts: &[Draft], networks: &Networks) -> Option<LineFa
 }
 
 /// The router ID of a line of a router block.
-fn id_in(said: &SaidLine<'_>) -> Option<u32>
+fn id_in(said: &Said<'_>) -> Option<u32>
     ensures { result ≡ drafting.router_id_set (block_spoken said.now.block)
         (statement_of said.now.statement) }
 {
@@ -108,7 +108,7 @@ fn id_in(said: &SaidLine<'_>) -> Option<u32>
 }
 
 /// The last router ID.
-pub(crate) fn router_id(said: &[SaidLine<'_>]) -> Option<u32>
+pub(crate) fn router_id(said: &[Said<'_>]) -> Option<u32>
     ensures { result ≡ drafting.id_after None (map said_of said.now) }
 {
     let mut found: Option<u32> = None;

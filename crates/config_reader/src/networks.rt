@@ -7,7 +7,7 @@ ghost use Rattle.config_reader.specs.Sightings.{prefix_of_length, names_prefix, 
 ghost use Rattle.config_reader.specs.Spoken.{statement_of, block_spoken};
 ghost use Rattle.std.specs.List.{list_any};
 
-use crate::reader::SaidLine;
+use crate::reader::Said;
 use crate::statements::{AddressPrefix, Block, Statement};
 use cost_base::OutOfMemory;
 use indexmap::IndexMap;
@@ -71,7 +71,7 @@ impl Model for Networks {
 }
 
 /// The `network` line that a line is.
-fn network_line(said: &SaidLine<'_>) -> Option<NetworkLine>
+fn network_line(said: &Said<'_>) -> Option<NetworkLine>
     ensures { result ≡ network_line said.now.number (block_spoken said.now.block)
         (statement_of said.now.statement) }
 {
@@ -158,7 +158,7 @@ impl Networks {
     }
 
     /// The `network` lines among what the lines say.
-    pub(crate) fn among(alloc: Global, said: &[SaidLine<'_>]) -> Result<Networks, OutOfMemory>
+    pub(crate) fn among(alloc: Global, said: &[Said<'_>]) -> Result<Networks, OutOfMemory>
         ensures { IfOk result (λ n. n ≡ network_lines (map said_of said.now)) }
     {
         let mut networks = Networks::new(alloc);

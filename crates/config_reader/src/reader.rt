@@ -18,7 +18,7 @@ const LONGEST_LINE: usize = 4096;
 
 /// A line that sets something, with its number and the block that it stands in.
 #[derive(Clone, Copy)]
-pub(crate) struct SaidLine<'a> {
+pub(crate) struct Said<'a> {
     pub number: u32,
     pub block: Block<'a>,
     pub statement: Statement<'a>,
@@ -42,7 +42,7 @@ pub(crate) struct LineFault {
 /// faulty by itself, and the block that is open.
 #[derive(Drop)]
 pub(crate) struct Reader<'a> {
-    said: Vec<SaidLine<'a>>,
+    said: Vec<Said<'a>>,
     heads: Vec<NamedHead<'a>>,
     hostname: Option<NamedHead<'a>>,
     fault: Option<LineFault>,
@@ -132,7 +132,7 @@ impl<'a> Reader<'a> {
         match statement {
             Statement::Unread => {}
             Statement::Refused(fault) => self.refuse(number, fault),
-            _ => self.said.push(SaidLine {
+            _ => self.said.push(Said {
                 number,
                 block,
                 statement,
@@ -154,7 +154,7 @@ impl<'a> Reader<'a> {
 /// What is kept of a whole configuration.
 #[derive(Drop)]
 pub(crate) struct Parts<'a> {
-    pub said: Vec<SaidLine<'a>>,
+    pub said: Vec<Said<'a>>,
     pub heads: Vec<NamedHead<'a>>,
     pub hostname: Option<NamedHead<'a>>,
     pub fault: Option<LineFault>,

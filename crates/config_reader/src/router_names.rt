@@ -1,7 +1,7 @@
 //! Names of routers.
 ghost use Rattle.std.specs.Prelude.{◌≡◌};
 ghost use Rattle.std.specs.List.{list_all};
-ghost use Rattle.config_reader.specs.Faults as definition;
+ghost use Rattle.config_reader.specs.RouterNames as definition;
 
 use text_lines::cut;
 
@@ -21,7 +21,7 @@ fn is_name_byte(byte: u8) -> bool
 }
 
 /// Whether the bytes are a name of a router: 1 to 64 letters of ASCII, digits, `-`, `_` and `.`.
-pub fn is_router_name(name: &[u8]) -> bool
+pub(crate) fn is_router_name(name: &[u8]) -> bool
     ensures { result ≡ definition.is_router_name name.now }
 {
     1 <= name.len() && name.len() <= LONGEST_NAME && has_name_bytes(name)
@@ -35,7 +35,7 @@ fn has_name_bytes(name: &[u8]) -> bool
 }
 
 /// The part of a file's name that names its router: after the last `/`, up to the first `.` behind it.
-pub fn name_of_file(file_name: &[u8]) -> &[u8]
+pub(crate) fn name_of_file(file_name: &[u8]) -> &[u8]
     ensures { result.now ≡ definition.before_first_dot (definition.after_last_slash file_name.now) }
 {
     let last = after_last_slash(file_name);

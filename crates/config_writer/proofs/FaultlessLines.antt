@@ -35,7 +35,8 @@ module _ (second : Block → Statement → Option ConfigFault) (twice : List Net
   module _ (quiet_second : (h : List ℕ) (n : ℕ) → second (OfInterface h) (CostIs n) ≡ None)
       (quiet_twice : (ns : List Network) (h : List ℕ) (n : ℕ) → twice ns (OfInterface h) (CostIs n) ≡ None) where
     -- a new cost line has no fault
-    cost_fine : (front : List (List ℕ)) (h : List ℕ) (n : ℕ) → open_block front ≡ OfInterface h → 1 ≤ n → n ≤ 65535 → LineFine second twice front (section_cost_line n)
+    cost_fine : (front : List (List ℕ)) (h : List ℕ) (n : ℕ) → open_block front ≡ OfInterface h → 1 ≤ n → n ≤ 65535 →
+        LineFine second twice front (section_cost_line n)
     cost_fine front h n here from to = record {
       short = le-leb (length (section_cost_line n)) 4096 (omega (arith, length-decimal-le 5 n (omega arith) (omega arith)));
       own = ap (λ block. refused (statement_in block (words (section_cost_line n)))) here ∙ ap refused (cost_said_there n from to);

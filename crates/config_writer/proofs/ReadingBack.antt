@@ -14,7 +14,7 @@ use Rattle.config_reader.specs.declared.fault.ConfigFault.{ConfigFault}
 use Rattle.config_reader.specs.Statements.{Statement, CostIs, Network, Block, OfInterface, OfRouter, OfOther, block_of}
 use Rattle.config_reader.specs.Settings.{Said, said, about, about_router, setting, address_said, area_set, cost_set, kind_said, passive_said, down_said, priority_said, router_id_said, interface_as_set}
 use Rattle.config_reader.specs.Configs.{first_heads}
-use Rattle.config_reader.specs.Faults.{router_name_said, is_router_name}
+use Rattle.config_reader.specs.RouterNames.{router_name_said, is_router_name}
 use Rattle.config_reader.specs.FaultList.{second_address, area_twice, config_fault, faults}
 use Rattle.config_reader.specs.Sections.{cost_after, with_cost, with_costs}
 use Rattle.config_reader.proofs.SettingSteps.{interface_by, interface_from, interface_of-from}

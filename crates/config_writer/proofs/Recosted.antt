@@ -16,7 +16,7 @@ use Rattle.config_reader.specs.Configs.{first_heads}
 use Rattle.config_reader.specs.FaultList.{refused}
 use Rattle.config_reader.specs.Reading.{open_block}
 use Rattle.config_reader.specs.Sections.{cost_after, section_cost_line}
-use Rattle.config_reader.proofs.LongerLists.{any-map}
+use Rattle.text_lines.proofs.Images.{any-map}
 use Rattle.config_reader.proofs.SettingSteps.{said_where}
 use Rattle.config_reader.proofs.BlockFacts.{open_block-push, block_with, open_headed, about-unheaded}
 use Rattle.config_writer.specs.Rewriting.{new_cost, headed, is_replaced, is_indented_kind, is_first_block, cost_behind}

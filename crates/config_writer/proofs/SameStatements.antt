@@ -9,7 +9,7 @@ use Rattle.text_lines.specs.Lines.{words, kind_of, is_head, is_head_kind}
 use Rattle.text_lines.specs.declared.LineKind.TheVariants.{Indented}
 use Rattle.config_reader.specs.Statements.{OfInterface, block_of, begin_with, statement_in, word_at}
 use Rattle.config_reader.specs.Settings.{said, about, about_router, is_of, is_of_router}
-use Rattle.config_reader.specs.Faults.{is_hostname_head, last_hostname, name_and_line, router_name_said}
+use Rattle.config_reader.specs.RouterNames.{is_hostname_head, last_hostname, name_and_line, router_name_said}
 use Rattle.config_reader.specs.Reading.{open_block}
 use Rattle.config_reader.proofs.LongerLists.{filter-numbers_more}
 use Rattle.config_reader.proofs.SaidSteps.{said_after, said-push, names_router, router_name-push}

@@ -17,7 +17,7 @@ use Rattle.config_reader.specs.Statements.{Block, OfInterface, OfRouter, OfOther
 use Rattle.config_reader.specs.Configs.{first_heads, name_with_line, name_opened}
 use Rattle.config_reader.specs.Reading.{open_block}
 use Rattle.config_reader.specs.Sections.{cost_after}
-use Rattle.config_reader.proofs.LongerLists.{map-unless, position-map}
+use Rattle.text_lines.proofs.Images.{map-unless, position-map}
 use Rattle.config_reader.proofs.SaidSteps.{opened_from}
 use Rattle.config_reader.proofs.HeadSteps.{first_heads-push, heads_with as first_heads_with, is_headed, unless_known}
 use Rattle.config_reader.proofs.BlockFacts.{open_block-push, block_with}

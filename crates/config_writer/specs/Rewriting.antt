@@ -65,7 +65,8 @@ abbrev pub whole_lines : List ℕ → List (List ℕ)
 whole_lines [] = []
 whole_lines (c ∷ cs) = if c == 10 then (10 ∷ []) ∷ whole_lines cs else grow c (whole_lines cs)
 
--- what is written for a line: nothing where it is taken out; else the line with its LF, and the new cost line where it is followed by one
+-- what is written for a line: nothing where it is taken out; else the line with its LF, and the new cost line where it
+-- is followed by one
 abbrev pub written_for : Bool → Option ℕ → List ℕ → List ℕ
 written_for true behind whole = []
 written_for false None whole = whole

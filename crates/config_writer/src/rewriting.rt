@@ -11,11 +11,10 @@ ghost use Rattle.config_writer.specs.Rewriting.{AreNewCosts, costs_of, rewritten
 use crate::RewriteStop;
 use crate::new_costs::NewCosts;
 use crate::writer::Writer;
-use config_reader::Names;
 use cost_base::OutOfMemory;
 use design_problem::CostLine;
 use std::alloc::Global;
-use text_lines::{Line, Lines};
+use text_lines::{Line, Lines, Names};
 
 /// The configuration of a router with the costs of `lines`: for each named interface every `ip ospf cost` line in its
 /// blocks is taken out, and the line ` ip ospf cost N` stands right after its first head. All other bytes stay in their
@@ -91,7 +90,7 @@ fn write_lines<'a>(
     let mut writer = Writer::new(alloc, costs);
     let mut left = Lines::new(bytes, bytes.len());
     while let Some(line) = next_line(&mut left) {
-        writer.write_line(line.text, left.ended())?;
+        writer.write_line(alloc, line.text, left.ended())?;
     }
     Ok(writer)
 }

@@ -8,10 +8,10 @@ ghost use Rattle.config_writer.specs.Writing.{OpensHead, GoesOverLine, put_for};
 
 use crate::config_lines::{interface_opened, sets_cost};
 use crate::new_costs::NewCosts;
-use config_reader::Names;
 use cost_base::OutOfMemory;
+use line_builder::{LineBuilder, push_line};
 use std::alloc::Global;
-use text_lines::{LineKind, kind_of, number_bytes};
+use text_lines::{LineKind, Names, kind_of, push_bytes};
 
 /// What was written for the lines so far, the heads that were met, and whether the open block is of an interface that
 /// has a new cost.
@@ -40,13 +40,18 @@ impl<'a> Writer<'a> {
     }
 
     /// Goes over a line, which ended with an LF or not.
-    pub(crate) fn write_line(&mut self, text: &'a [u8], ended: bool) -> Result<(), OutOfMemory>
+    pub(crate) fn write_line(
+        &mut self,
+        alloc: Global,
+        text: &'a [u8],
+        ended: bool,
+    ) -> Result<(), OutOfMemory>
         ensures { OnOk result (GoesOverLine self.old self.new text.now ended) }
     {
         match kind_of(text) {
             LineKind::Head => {
                 let cost = self.open(text)?;
-                put_head(&mut self.out, text, ended, cost)
+                put_head(alloc, &mut self.out, text, ended, cost)
             }
             LineKind::Indented if self.in_named_block && sets_cost(text) => Ok(()),
             _ => put_line(&mut self.out, text, ended),
@@ -70,6 +75,7 @@ impl<'a> Writer<'a> {
 
 /// Puts a head, and the new cost behind it, if any.
 fn put_head(
+    alloc: Global,
     out: &mut Vec<u8>,
     head: &[u8],
     ended: bool,
@@ -80,29 +86,25 @@ fn put_head(
     let Some(cost) = cost else {
         return put_line(out, head, ended);
     };
-    put_line(out, head, true)?;
-    put_cost_line(out, cost)
+    push_line(out, head)?;
+    put_cost_line(alloc, out, cost)
 }
 
 /// Puts a line, and an LF where it ended with one.
 fn put_line(out: &mut Vec<u8>, text: &[u8], ended: bool) -> Result<(), OutOfMemory>
     ensures { OnOk result (out.new.items ≡ out.old.items ++ (text.now ++ line_end ended)) }
 {
-    out.extend_from_slice(text)?;
     if ended {
-        out.push(b'\n')?;
+        push_line(out, text)
+    } else {
+        push_bytes(out, text)
     }
-    Ok(())
 }
 
 /// Puts the line ` ip ospf cost N`.
-fn put_cost_line(out: &mut Vec<u8>, cost: u16) -> Result<(), OutOfMemory>
+fn put_cost_line(alloc: Global, out: &mut Vec<u8>, cost: u16) -> Result<(), OutOfMemory>
     ensures { OnOk result (out.new.items ≡ out.old.items ++ (section_cost_line cost ++ 10 ∷ [])) }
 {
-    let mut room = [0; 40];
-    let length = number_bytes(cost as u128, &mut room);
-    out.extend_from_slice(b" ip ospf cost ")?;
-    out.extend_from_slice(&room[..length])?;
-    out.push(b'\n')?;
-    Ok(())
+    let line = LineBuilder::of_numbers(alloc, b" ip ospf cost", &[u32::from(cost)])?;
+    line.end_in(out)
 }

@@ -7,7 +7,8 @@ use Rattle.cost_base.specs.Outside.{CountsFaults}
 use Rattle.cost_base.specs.declared.ShelfStop.TheVariants.{Failed}
 
 -- one more name counts once for itself, and not for another
-pub times_more : (names : List (List ℕ)) (name other : List ℕ) → count_of_name (names ++ name ∷ []) other ≡ count_of_name names other + cond (bytes_eq name other) 1 0
+pub times_more : (names : List (List ℕ)) (name other : List ℕ) → count_of_name (names ++ name ∷ []) other ≡
+    count_of_name names other + cond (bytes_eq name other) 1 0
 times_more names name other =
     omega (arith, sum_by-append (λ (x : List ℕ). cond (bytes_eq x other) 1 0) names (name ∷ []))
 

@@ -1,13 +1,16 @@
--- Lists: numbers in a row, maps and filters over them, tests of images, a list with one more element, what a list lacks, and two lists together.
-use Rattle.std.proofs.Common.{◌≡◌, ◌≢◌, ℕ, zero, suc, ◌+◌, ◌<◌, ◌≤◌, refl, sym, ◌∙◌, ap, subst, List, [], ◌∷◌, ◌++◌, All, Bool, true, false, cond, ◌||◌, filter, map, length, get_or, arith, Option, None, Some, append_assoc, zero-add}
-use Rattle.std.specs.List.{AllByRecursion, AllZip, cons_option, list_any}
+-- Lists: numbers in a row, maps and filters over them, tests of images, a list with one more element, what a list has
+-- and lacks, two lists together, and pairs.
+use Rattle.std.proofs.Common.{◌≡◌, ◌≢◌, ℕ, zero, suc, ◌+◌, ◌<◌, ◌≤◌, refl, sym, ◌∙◌, ap, subst, List, [], ◌∷◌, ◌++◌, All, Bool, true, false, cond, ◌||◌, filter, map, length, get_or, arith, Option, None, Some, append_assoc, zero-add, ◌⊎◌, inl, inr, take, drop, AllPairs}
+use Rattle.std.specs.List.{AllByRecursion, AllZip, cons_option, list_any, filter_map}
 use Rattle.std.specs.Option.{option_or}
 use Rattle.std.proofs.lemmas.Bool.{false_from_ne_true, false≢true}
-use Rattle.std.proofs.lemmas.List.{append-nil, length-map, map-append}
-use Rattle.std.proofs.lemmas.List.Elements.{All-cons, All-head, All-nil, All-tail, filter-append}
+use Rattle.std.proofs.lemmas.List.{append-nil, length-map, map-append, drop_more, take_more}
+use Rattle.std.proofs.lemmas.List.Elements.{All-cons, All-head, All-nil, All-tail, filter-append, All-append, All-map, filter_map-append}
 use Rattle.std.proofs.lemmas.List.Folds.{list_any_at}
 use native.Mathlib.Decide.{ℕ_discrete}
-use Rattle.cost_base.specs.Lists.{numbers_from, first_of, last_of, Lacks, NoneTwice}
+use Rattle.std.specs.Prelude.{Contains}
+use Rattle.std.proofs.lemmas.List.Kept.{AllPairs-cons}
+use Rattle.cost_base.specs.Lists.{numbers_from, first_of, last_of, Lacks, NoneTwice, Has}
 
 -- Numbers in a row.
 
@@ -167,12 +170,99 @@ pub option_or-none : {X : Type 0} (o : Option X) → option_or o None ≡ o
 option_or-none None = refl
 option_or-none (Some x) = refl
 
+pub option_or-assoc : {X : Type 0} (a b c : Option X) → option_or (option_or a b) c ≡ option_or a (option_or b c)
+option_or-assoc None b c = refl
+option_or-assoc (Some x) b c = refl
+
+-- neither of two, where there is none of both
+pub option_or-parts : {X : Type 0} (a b : Option X) → option_or a b ≡ None → (a ≡ None) × (b ≡ None)
+option_or-parts None b none = (refl, none)
+option_or-parts (Some x) b none = absurd (cc)
+
+-- none where a test fails, and none besides
+pub cond-none : {X : Type 0} (b : Bool) (x : X) (o : Option X) → cond b (Some x) o ≡ None → (b ≡ false) × (o ≡ None)
+cond-none true x o none = absurd (cc)
+cond-none false x o none = (refl, none)
+
+-- the first of a kind, with one more
+pub first_of-filter_map-push : {X Y : Type 0} (pick : X → Option Y) (xs : List X) (x : X) →
+    first_of (filter_map pick (xs ++ x ∷ [])) ≡ option_or (first_of (filter_map pick xs)) (pick x)
+first_of-filter_map-push pick xs x = ap first_of (filter_map-append pick xs (x ∷ [])) ∙ first_of-push_option (pick x) (filter_map pick xs)
+
+-- a list without a first element is empty
+pub none_first : {X : Type 0} (xs : List X) → first_of xs ≡ None → xs ≡ []
+none_first [] none = refl
+none_first (x ∷ xs) none = absurd (cc)
+
+-- the element that was read, and those behind it
+pub drop_read : {X : Type 0} (xs : List X) (k : ℕ) (x : X) → k < length xs → x ≡ get_or xs k x → drop k xs ≡ x ∷ drop (k + 1) xs
+drop_read {X} xs k x within is = drop_more xs k x within ∙ ap (λ (y : X). y ∷ drop (k + 1) xs) (sym is)
+
+-- the images of the first so many, with that of one more
+pub map_put : {X Y : Type 0} (f : X → Y) (xs : List X) (i : ℕ) (x : X) → i < length xs → x ≡ get_or xs i x →
+    (made : List Y) → made ≡ map f (take i xs) → (y : Y) → y ≡ f x → (more : List Y) → more ≡ made ++ y ∷ [] → more ≡ map f (take (i + 1) xs)
+map_put f xs i x within is made are y y_is more added =
+    added ∙ ap (λ ys. ys ++ y ∷ []) are ∙ ap (λ z. map f (take i xs) ++ z ∷ []) (y_is ∙ ap f is)
+    ∙ sym (ap (map f) (take_more xs i x within) ∙ map-append f (take i xs) (get_or xs i x ∷ []))
+
+-- What a list has.
+
+-- a list has a number or hasn't
+pub has_or_not : (xs : List ℕ) (x : ℕ) → Has xs x ⊎ (Has xs x → ⊥)
+has_or_not [] x = inr (λ has. has)
+has_or_not (y ∷ ys) x = elim (ℕ_discrete x y) [
+  | yes same ↦ inl (inl same)
+  | no other ↦ elim (has_or_not ys x) [
+    | inl has ↦ inl (inr has)
+    | inr hasnt ↦ inr (λ has. elim has [ inl same ↦ other same | inr later ↦ hasnt later ])
+  ]
+]
+
+-- each of its elements
+pub has_at : (xs : List ℕ) (i : ℕ) → i < length xs → Has xs (get_or xs i 0)
+has_at [] i i_in = absurd (omega arith)
+has_at (x ∷ xs) zero i_in = inl refl
+has_at (x ∷ xs) (suc i) i_in = inr (has_at xs i (omega arith))
+
+-- what holds of each element holds of what the list has
+pub all_has : (P : ℕ → Type 0) (xs : List ℕ) (x : ℕ) → All P xs → Has xs x → P x
+all_has P [] x all has = absurd has
+all_has P (y ∷ ys) x all (inl same) = subst P (sym same) (All-head P y ys all)
+all_has P (y ∷ ys) x all (inr has) = all_has P ys x (All-tail P y ys all) has
+
+-- what each of its beginnings has
+pub taken_has : (n : ℕ) (xs : List ℕ) (x : ℕ) → Has (take n xs) x → Has xs x
+taken_has zero xs x has = absurd has
+taken_has (suc n) [] x has = absurd has
+taken_has (suc n) (y ∷ ys) x (inl same) = inl same
+taken_has (suc n) (y ∷ ys) x (inr has) = inr (taken_has n ys x has)
+
+-- what the second of two lists has
+pub has_right : (xs ys : List ℕ) (x : ℕ) → Has ys x → Has (xs ++ ys) x
+has_right [] ys x has = has
+has_right (z ∷ zs) ys x has = inr (has_right zs ys x has)
+
+-- one element more in front
+pub contains_later : {X : Type 0} (x : X) (xs : List X) (y : X) → Contains xs y → Contains (x ∷ xs) y
+contains_later x xs y has = (suc has.0, omega (arith, has.1), has.2)
+
 -- What a list lacks.
 
 -- a number that a list lacks is none of its elements
 pub all_lacks : (xs : List ℕ) (x : ℕ) → Lacks xs x → All (λ y. x ≢ y) xs
 all_lacks [] x lacks = All-nil (λ y. x ≢ y)
 all_lacks (y ∷ ys) x lacks = All-cons (λ z. x ≢ z) y ys lacks.0 (all_lacks ys x lacks.1)
+
+-- nothing that it has
+pub has_lacks : (xs : List ℕ) (x : ℕ) → Has xs x → Lacks xs x → ⊥
+has_lacks [] x has lacks = has
+has_lacks (y ∷ ys) x (inl same) lacks = lacks.0 same
+has_lacks (y ∷ ys) x (inr has) lacks = has_lacks ys x has lacks.1
+
+-- two lists lack what each of them lacks
+pub lacks_both : (xs ys : List ℕ) (x : ℕ) → Lacks xs x → Lacks ys x → Lacks (xs ++ ys) x
+lacks_both [] ys x first rest = rest
+lacks_both (z ∷ zs) ys x first rest = (first.0, lacks_both zs ys x first.1 rest)
 
 -- a list lacks what another element is not, put at its end
 pub lacks_push : (xs : List ℕ) (y x : ℕ) → Lacks xs x → x ≢ y → Lacks (xs ++ y ∷ []) x
@@ -272,3 +362,28 @@ zip_push R [] [] x y zip here = (here, tt)
 zip_push R [] (w ∷ ys) x y zip here = absurd zip
 zip_push R (z ∷ xs) [] x y zip here = absurd zip
 zip_push R (z ∷ xs) (w ∷ ys) x y zip here = (zip.0, zip_push R xs ys x y zip.1 here)
+
+-- Pairs of a list's elements.
+
+pub pairs_nil : {X : Type 0} (R : X → X → Type 0) → AllPairs R []
+pairs_nil R = λ i j d below within. absurd (omega arith)
+
+pub pairs_head : {X : Type 0} (R : X → X → Type 0) (x : X) (xs : List X) → AllPairs R (x ∷ xs) → All (R x) xs
+pairs_head R x xs pairs = λ k d within. pairs 0 (suc k) d (omega arith) (omega arith)
+
+pub pairs_tail : {X : Type 0} (R : X → X → Type 0) (x : X) (xs : List X) → AllPairs R (x ∷ xs) → AllPairs R xs
+pairs_tail R x xs pairs = λ i j d below within. pairs (suc i) (suc j) d (omega arith) (omega arith)
+
+-- of two lists, one after the other
+pub pairs_append : {X : Type 0} (R : X → X → Type 0) (xs ys : List X) → AllPairs R xs → AllPairs R ys → All (λ x. All (R x) ys) xs → AllPairs R (xs ++ ys)
+pairs_append R [] ys first second across = second
+pairs_append R (x ∷ xs) ys first second across =
+    AllPairs-cons R x (xs ++ ys) (All-append (R x) xs ys (pairs_head R x xs first) (All-head (λ v. All (R v) ys) x xs across))
+    (pairs_append R xs ys (pairs_tail R x xs first) second (All-tail (λ v. All (R v) ys) x xs across))
+
+-- of what a function gives
+pub pairs_map : {X Y : Type 0} (R : Y → Y → Type 0) (f : X → Y) (xs : List X) → AllPairs (λ a b. R (f a) (f b)) xs → AllPairs R (map f xs)
+pairs_map R f [] pairs = pairs_nil R
+pairs_map R f (x ∷ xs) pairs =
+    AllPairs-cons R (f x) (map f xs) (All-map (R (f x)) f xs (pairs_head (λ a b. R (f a) (f b)) x xs pairs))
+    (pairs_map R f xs (pairs_tail (λ a b. R (f a) (f b)) x xs pairs))

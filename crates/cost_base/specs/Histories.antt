@@ -16,7 +16,8 @@ abbrev pub came_of : {T : Type 0} → Result T ShelfStop → List ℕ → Result
 came_of (Ok x) bytes = Ok bytes
 came_of (Err stop) bytes = Err stop
 
--- what comes of a file of at most so many bytes is the file, and 'too long' comes of a longer one, where the shelf tells it
+-- what comes of a file of at most so many bytes is the file, and 'too long' comes of a longer one, where the shelf
+-- tells it
 abbrev pub IsToldAs : Option (List ℕ) → ℕ → Result (List ℕ) ShelfStop → Type 0
 IsToldAs file most (Ok bytes) = IsFile file bytes × (length bytes ≤ most)
 IsToldAs file most (Err TooLong) = IsLonger file most

@@ -1,7 +1,6 @@
 -- What shelves gave and what sinks were handed, one part after another.
 use Rattle.std.proofs.Common.{◌≡◌, ℕ, ◌+◌, refl, sym, ◌∙◌, ap, subst, List, [], ◌∷◌, ◌++◌, append_assoc, append-nil, arith, Option, Some, None, cond, bytes_eq}
 use Rattle.std.proofs.lemmas.List.Sums.{sum_by-append}
-use Rattle.std.specs.Io.KnownBytes.{Appends}
 use Rattle.cost_base.specs.Files.{count_of_name}
 use Rattle.cost_base.specs.Outside.{GotAll}
 use Rattle.cost_base.specs.Histories.{Taken, AreTold, IsToldAs, failure, failures, CountsFailures, HasGiven}
@@ -45,7 +44,8 @@ pub given_counts : (held_a held_b : List ℕ → Option (List ℕ)) (noted_a not
     HasGiven held_a held_b noted_a noted_b came → CountsFailures (count_of_name noted_a) (count_of_name noted_b) came
 given_counts held_a held_b noted_a noted_b came given =
     let count : (name : List ℕ) → count_of_name noted_b name ≡ count_of_name noted_a name + count_of_name (failures came) name =
-    λ name. ap (λ (names : List (List ℕ)). count_of_name names name) given.noted ∙ sum_by-append (λ (x : List ℕ). cond (bytes_eq x name) 1 0) noted_a (failures came) in
+    λ name. ap (λ (names : List (List ℕ)). count_of_name names name) given.noted ∙
+    sum_by-append (λ (x : List ℕ). cond (bytes_eq x name) 1 0) noted_a (failures came) in
     record {
       failed = λ name some. omega (arith, count name, some);
       kept = λ name none. omega (arith, count name, none);
@@ -67,15 +67,3 @@ handed_more a b None p q first second = tt
 handed_more a None (Some z) p q first second = absurd second
 handed_more None (Some y) (Some z) p q first second = absurd first
 handed_more (Some x) (Some y) (Some z) p q first second = second ∙ ap (λ bytes. bytes ++ q) first ∙ append_assoc x p q
-
--- a writer that took the first bytes and then the others took both
-pub appends_both : (a b c : Option (List ℕ)) (xs ys : List ℕ) → Appends a b xs → Appends b c ys → Appends a c (xs ++ ys)
-appends_both None b c xs ys first second = tt
-appends_both (Some x) None c xs ys first second = absurd first
-appends_both (Some x) (Some y) None xs ys first second = absurd second
-appends_both (Some x) (Some y) (Some z) xs ys first second = second ∙ ap (λ (bytes : List ℕ). bytes ++ ys) first ∙ append_assoc x xs ys
-
--- a writer took nothing between a state and itself
-pub appends_none : (a : Option (List ℕ)) → Appends a a []
-appends_none None = tt
-appends_none (Some x) = sym (append-nil x)

@@ -4,7 +4,7 @@ ghost use Rattle.std.specs.Prelude.{◌≡◌, ℕ, ◌<◌, ◌≤◌, ◌+◌,
 ghost use Rattle.std.specs.Io.KnownBytes.{Appends};
 ghost use Rattle.cost_base.specs.Outside.{HasCause};
 ghost use Rattle.cost_base.specs.Histories.{Hands};
-ghost use Rattle.cost_base.specs.HistoryLaws.{appends_none, appends_both};
+ghost use Rattle.std.proofs.KnownBytes.{Appends-nil, Appends-trans};
 
 use crate::{PutFailed, Sink};
 use std::io::{ErrorKind, Write};
@@ -51,10 +51,10 @@ impl<W: Write> Sink for OutSink<W> {
         result
     }
 
-    ghost handed_none = { λ a. appends_none (W.contents a.output) };
+    ghost handed_none = { λ a. Appends-nil (W.contents a.output) };
 
     ghost handed_more = { λ a b c first later.
-        appends_both (W.contents a.output) (W.contents b.output) (W.contents c.output)
+        Appends-trans (W.contents a.output) (W.contents b.output) (W.contents c.output)
         first later };
 
     ghost handed_got = { λ a b bytes handed. tt };

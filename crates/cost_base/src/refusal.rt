@@ -1,5 +1,6 @@
 //! Why what was handed in isn't taken.
 ghost use Rattle.std.specs.Prelude.{◌≡◌, ℕ};
+ghost use Rattle.cost_base.specs.Refusals.{MatchRefusal, OnRefused};
 
 use crate::OutOfMemory;
 use std::alloc::AllocFailed;
@@ -31,6 +32,18 @@ impl<F, P> Refusal<F, P> {
         ensures { result ≡ Refusal.Refused fault place }
     {
         Refusal::Refused { fault, place }
+    }
+
+    /// The refusal for another fault at another place, which are told by these. Want of memory stays.
+    pub fn and_then<G, Q, N: FnOnce(F, P) -> Refusal<G, Q>>(self, told: N) -> Refusal<G, Q>
+        requires { OnRefused self (N.pre told) }
+        ensures { MatchRefusal self (λ fault place. N.post told fault place result)
+            (result ≡ Refusal.OutOfMemory) }
+    {
+        match self {
+            Refusal::Refused { fault, place } => told(fault, place),
+            Refusal::OutOfMemory => Refusal::OutOfMemory,
+        }
     }
 }
 

@@ -8,10 +8,10 @@ use Rattle.design_problem.specs.Earnest.{IsLeastPoint}
 use Rattle.design_problem.specs.Rows.{LeadsEach, box_of}
 use Rattle.cut_advisors.specs.declared.candidate.Candidate.{Candidate}
 use Rattle.form_search.specs.declared.found.Found.{Found}
-use Rattle.form_search.specs.Advised.{AreAdvisorsLeft, AreAllTold, IsPick, IsSearched}
+use Rattle.form_search.specs.AdvisorsAsked.{AreAdvisorsLeft, AreAllTold, IsPick, IsSearched}
 use Rattle.form_search.proofs.AdvisorLaws.{calls_there, left_alike, left_searched, left_then}
 use Rattle.cost_branching.specs.Pools.{Pooled}
-use Rattle.cost_branching.specs.Advising.{AreAskedInTurn, IsAskedAt}
+use Rattle.cost_branching.specs.AdvisorsAsked.{AreAskedInTurn, IsAskedAt}
 
 -- one search more, behind the others
 pub turns_more : {A D : Type 0} (IsAskedFor : D → List A → List A → Type 0) (ds : List D) (d : D) (old mid new : List A) →

@@ -13,7 +13,7 @@ use Rattle.design_problem.specs.declared.form.Row.{Row}
 use Rattle.design_problem.specs.declared.problem.Request.{Request}
 use Rattle.design_problem.specs.Forms.{Form, AreMet}
 use Rattle.design_problem.specs.Forms.{no_form, value_at}
-use Rattle.design_problem.specs.Problems.{DesignProblem, IsProblem, request_ends, no_request, request_at}
+use Rattle.design_problem.specs.Problems.{DesignProblem, IsProblem, request_ends, no_request, request_at, IsProblemOnGraph}
 use Rattle.design_problem.specs.Rows.{IsRivalOf, IsRow, LeadsEach, form_of_row, forms_of_rows, path_edges}
 use Rattle.rival_separation.specs.Askers.{AreCheapestRivals, IsCheapestIfAny, RequestLeads}
 use Rattle.rival_separation.specs.Rivals.{IsCheapestRival}
@@ -22,10 +22,10 @@ use Rattle.form_search.specs.declared.source.Asked.{Asked}
 use Rattle.form_search.specs.declared.source.Asked.TheVariants.{Nothing, Added}
 use Rattle.form_search.proofs.SourceLaws.{grows_none}
 use Rattle.cost_branching.specs.Pools.{ArePoolRows, Differ, IsRowPool}
-use Rattle.cost_branching.specs.Rivals.{BeginWith, IsProblemOnGraph, IsRivalTooCheap, IsTrueRowForm, KnownRows}
+use Rattle.cost_branching.specs.Rivals.{BeginWith, IsRivalTooCheap, IsTrueRowForm, KnownRows}
 use Rattle.cost_branching.specs.Asking.{AnswersRequestsBelow, AreAllRequestsAsked, AreRequestsAsked, AreAskedAmong, IsRequestAsked, NoRivalRow, OneRivalRow}
 use Rattle.cost_branching.specs.SourceLaws.{rival_row_met}
-use Rattle.cost_branching.proofs.NewForms.{between_negative, grows_more, new_rival}
+use Rattle.cost_branching.proofs.NewForms.{between_negative, grows_more, new_form}
 
 -- where the forms of rows are at least 0, each of them is
 rows_met : (p : DesignProblem) (rows : List Row) (forms : List Form) (point : Point) → forms ≡ forms_of_rows p rows →
@@ -48,13 +48,13 @@ none_asked point old forms in_step met = record {
 
 -- one request more, whose path leads
 answers_more : (p : DesignProblem) (point : Point) (requests : ℕ) (old_forms forms : List Form) (asked : Asked) →
-    AnswersRequestsBelow p point requests old_forms forms asked → RequestLeads p.graph point (request_at p.paths requests) →
+    AnswersRequestsBelow p point requests old_forms forms asked → RequestLeads p.graph point (request_at p.requests requests) →
     AnswersRequestsBelow p point (requests + 1) old_forms forms asked
 answers_more p point requests old_forms forms Nothing answer leads = (
   answer.0,
   λ k k_in. elim (cases_lt k requests) [
     | inl before ↦ answer.1 k before
-    | inr last ↦ subst (λ (i : ℕ). RequestLeads p.graph point (request_at p.paths i)) (let e : requests ≡ k = omega arith in e) leads
+    | inr last ↦ subst (λ (i : ℕ). RequestLeads p.graph point (request_at p.requests i)) (let e : requests ≡ k = omega arith in e) leads
   ],
 )
 answers_more p point requests old_forms forms Added answer leads = answer
@@ -79,7 +79,7 @@ more_lead point requests old old_forms now forms new new_forms asked are one =
       grows = are.grows;
       apart = All-weaker (Apart old.problem point requests) (Apart old.problem point (requests + 1)) (apart_more old.problem point requests) now.rows are.apart;
       answer = answers_more old.problem point requests old_forms forms asked are.answer
-          (subst (λ (p : DesignProblem). RequestLeads p.graph point (request_at p.paths requests)) are.problem one.leads);
+          (subst (λ (p : DesignProblem). RequestLeads p.graph point (request_at p.requests requests)) are.problem one.leads);
     }))
 
 -- one request more, of which a row came
@@ -91,29 +91,29 @@ too_cheap_as p point k l edges others same_request same_edges too_cheap =
     subst (λ (i : ℕ). IsRivalTooCheap p point i others) (sym same_request) (subst (λ (es : List ℕ). IsRivalTooCheap p point k es) (sym same_edges) too_cheap)
 
 -- the cheapest rival of a request's path, where it is cheap
-too_cheap_of : (p : DesignProblem) (point : Point) (k : ℕ) (es : List ℕ) → k < length p.paths →
-    IsCheapestRival p.graph point (request_ends (request_at p.paths k)) (request_at p.paths k).path.edges es →
+too_cheap_of : (p : DesignProblem) (point : Point) (k : ℕ) (es : List ℕ) → k < length p.requests →
+    IsCheapestRival p.graph point (request_ends (request_at p.requests k)) (request_at p.requests k).path.edges es →
     IsRivalTooCheap p point k es
 too_cheap_of p point k es known cheapest =
-    let here : slice_get p.paths k ≡ Some (request_at p.paths k) = slice_get-get_or p.paths k no_request known in
+    let here : slice_get p.requests k ≡ Some (request_at p.requests k) = slice_get-get_or p.requests k no_request known in
     record {
-      rival = subst (λ (r : Option Request). IsRivalOf p.graph r es) (sym here) (cheapest.rival.path, cheapest.rival.other);
+      rival = subst (λ (r : Option Request). IsRivalOf p.graph r es) (sym here) cheapest.rival;
       cheap = subst (λ (r : Option Request). cost p.graph point es < cost p.graph point (path_edges r) + point.scale) (sym here) cheapest.cheap;
     }
 
 -- what is told of a request: that rival is too cheap, or the path leads
 pub told_cheap : (p : DesignProblem) (point : Point) (k : ℕ) (rivals : List (Option (List ℕ))) (rival : Option (List ℕ))
-    (es : List ℕ) → AreCheapestRivals p.graph point p.paths rivals → k < length p.paths → rival ≡ get_or rivals k None →
+    (es : List ℕ) → AreCheapestRivals p.graph point p.requests rivals → k < length p.requests → rival ≡ get_or rivals k None →
     rival ≡ Some es → IsRivalTooCheap p point k es
 told_cheap p point k rivals rival es are known told is =
     too_cheap_of p point k es known
-    (subst (IsCheapestIfAny p.graph point (request_at p.paths k)) (sym told ∙ is) (are.each k known))
+    (subst (IsCheapestIfAny p.graph point (request_at p.requests k)) (sym told ∙ is) (are.each k known))
 
 pub told_leads : (p : DesignProblem) (point : Point) (k : ℕ) (rivals : List (Option (List ℕ))) (rival : Option (List ℕ)) →
-    AreCheapestRivals p.graph point p.paths rivals → k < length p.paths → rival ≡ get_or rivals k None → rival ≡ None →
-    RequestLeads p.graph point (request_at p.paths k)
+    AreCheapestRivals p.graph point p.requests rivals → k < length p.requests → rival ≡ get_or rivals k None → rival ≡ None →
+    RequestLeads p.graph point (request_at p.requests k)
 told_leads p point k rivals rival are known told is =
-    subst (IsCheapestIfAny p.graph point (request_at p.paths k)) (sym told ∙ is) (are.each k known)
+    subst (IsCheapestIfAny p.graph point (request_at p.requests k)) (sym told ∙ is) (are.each k known)
 
 -- the rows still begin with those
 pub begun_more : (first : List Row) (point : Point) (request : ℕ) (old : KnownRows) (forms : List Form)
@@ -129,7 +129,7 @@ begun_more first point request old forms new new_forms false begun one =
 row_negative : (p : DesignProblem) (point : Point) (row : Row) → IsProblem p → length point.values ≡ length p.low →
     IsRivalTooCheap p point row.request row.rival → value_at (form_of_row p row) point <ℤ pos 0
 row_negative p point row kept count cheap =
-    between_negative p point (path_edges (slice_get p.paths row.request)) row.rival kept count cheap.cheap
+    between_negative p point (path_edges (slice_get p.requests row.request)) row.rival kept count cheap.cheap
 
 same_row_form : (p : DesignProblem) (a b : Row) → a.request ≡ b.request → a.rival ≡ b.rival → form_of_row p a ≡ form_of_row p b
 same_row_form p a b same_request same_edges = cc
@@ -171,7 +171,7 @@ row_added point requests old old_forms now forms asked row are met count kept he
           are.apart) (inl (omega arith));
       answer = (
         λ leads. clash_ℤ negative (rival_row_met p point row kept.problem count cheap.rival leads),
-        new_rival point old_forms forms (form_of_row p row) met negative,
+        new_form point old_forms forms (form_of_row p row) met negative,
       );
     }
 
@@ -189,13 +189,14 @@ one_added point requests old old_forms now forms new new_forms asked are met cou
     are.problem one.cheap)))
 
 -- where the paths of all requests lead, each path leads
-pub all_lead : (p : DesignProblem) (point : Point) (requests : ℕ) → length p.paths ≤ requests → ((k : ℕ) → k < requests → RequestLeads p.graph point (request_at p.paths k)) → LeadsEach p point
+pub all_lead : (p : DesignProblem) (point : Point) (requests : ℕ) → length p.requests ≤ requests →
+    ((k : ℕ) → k < requests → RequestLeads p.graph point (request_at p.requests k)) → LeadsEach p point
 all_lead p point requests all lead =
-    All-from_get_or (λ r. LeadsBy point.scale p.graph point (request_ends r) r.path.edges) p.paths no_request (λ k k_in. lead k (omega arith))
+    All-from_get_or (λ r. LeadsBy point.scale p.graph point (request_ends r) r.path.edges) p.requests no_request (λ k k_in. lead k (omega arith))
 
 -- all requests were asked
 pub all_asked : (point : Point) (requests : ℕ) (old : KnownRows) (old_forms : List Form) (new : KnownRows)
-    (new_forms : List Form) (asked : Asked) → length old.problem.paths ≤ requests →
+    (new_forms : List Form) (asked : Asked) → length old.problem.requests ≤ requests →
     AreRequestsAsked point requests old old_forms new new_forms asked →
     IsSourceAnswer (LeadsEach old.problem) point old_forms new_forms asked
 all_asked point requests old old_forms new new_forms asked all are = by_answer asked are.answer
@@ -278,7 +279,7 @@ one_added_among point requests old old_forms now forms new new_forms asked are m
     }
 
 pub all_asked_among : (point : Point) (requests : ℕ) (old : KnownRows) (old_forms : List Form) (new : KnownRows)
-    (new_forms : List Form) (asked : Asked) → length old.problem.paths ≤ requests →
+    (new_forms : List Form) (asked : Asked) → length old.problem.requests ≤ requests →
     AreAskedAmong point requests old old_forms new new_forms asked → AreAllRequestsAsked point old old_forms new new_forms asked
 all_asked_among point requests old old_forms new new_forms asked all are = record {
   problem = are.own.problem;

@@ -3,19 +3,20 @@ use Rattle.std.proofs.Common.{◌≡◌, ℕ, ◌<◌, refl, sym, ◌∙◌, ap,
 use Rattle.std.specs.Prelude.{All, min}
 use Rattle.std.proofs.lemmas.List.{append-nil, get_or-map, length-map, take_at}
 use Rattle.std.proofs.lemmas.List.Elements.{All-map}
-use Rattle.design_problem.specs.declared.form.CostBox.{CostBox}
+use Rattle.design_problem.specs.declared.boxes.CostBox.{CostBox}
 use Rattle.design_problem.specs.declared.form.Row.{Row}
 use Rattle.design_problem.specs.Forms.{Form}
-use Rattle.design_problem.specs.Problems.{DesignProblem, IsProblem}
+use Rattle.design_problem.specs.Problems.{DesignProblem, IsProblem, IsProblemOnGraph}
 use Rattle.design_problem.specs.Boxes.{IsInBox, capped}
 use Rattle.design_problem.specs.Rows.{IsFit, LeadsEach, box_of, form_of_row}
-use Rattle.form_search.specs.Finds.{IsSearchResult, IsSearchTree}
+use Rattle.form_search.specs.Finds.{IsSearchResult}
+use Rattle.design_problem.specs.SearchTrees.{IsSearchTree}
 use Rattle.form_search.specs.Sources.{Grows}
 use Rattle.form_search.specs.declared.found.Found.{Found}
 use Rattle.form_search.specs.declared.found.Found.TheVariants.{Costs, Refuted, Undecided}
 use Rattle.cost_branching.specs.Pools.{IsRowPool, MoreRows, Pooled}
 use Rattle.cost_branching.specs.Decisions.{IsDecided}
-use Rattle.cost_branching.specs.Rivals.{IsProblemOnGraph, IsTrueRowForm}
+use Rattle.cost_branching.specs.Rivals.{IsTrueRowForm}
 
 -- costs of the box at a cap are costs of the box
 pub uncapped : (box : CostBox) (cap : ℕ) (w : List ℕ) → IsInBox (capped box cap) w → IsInBox box w
@@ -38,7 +39,7 @@ costs_fit : (p : DesignProblem) (cap : ℕ) (w : List ℕ) → IsProblem p → I
 costs_fit p cap w kept inside leads = record {
   within = uncapped (box_of p) cap w inside;
   only = λ k d k_in. record {
-    path = kept.paths k d k_in;
+    path = kept.requests k d k_in;
     others = λ other is_path differs. let more = leads k d k_in other is_path differs in omega arith;
   };
 }

@@ -9,7 +9,7 @@ use Rattle.area_graph.specs.Costs.{cost}
 use Rattle.design_problem.specs.Forms.{AreMet, Form, value_at}
 use Rattle.design_problem.specs.Problems.{DesignProblem, IsProblem}
 use Rattle.design_problem.specs.Rows.{form_between}
-use Rattle.form_search.specs.Sources.{Grows, HasNewRival}
+use Rattle.form_search.specs.Sources.{Grows, HasNewForm}
 use Rattle.cost_branching.specs.SourceLaws.{value_between}
 
 below_zero : (rival wanted scale : ℕ) → rival < wanted + scale → ((pos rival -ℤ pos wanted) -ℤ pos scale) <ℤ pos 0
@@ -33,9 +33,9 @@ grows_more IsTrue old_forms forms form grows is = record {
 }
 
 -- a negative form stands in no pool whose forms are met
-pub new_rival : (point : Point) (old_forms forms : List Form) (form : Form) → AreMet old_forms point →
-    value_at form point <ℤ pos 0 → HasNewRival point old_forms (forms ++ form ∷ [])
-new_rival point old_forms forms form met negative = record {
+pub new_form : (point : Point) (old_forms forms : List Form) (form : Form) → AreMet old_forms point →
+    value_at form point <ℤ pos 0 → HasNewForm point old_forms (forms ++ form ∷ [])
+new_form point old_forms forms form met negative = record {
   form = form;
   is_new = Contains-push forms form;
   not_old = λ has. clash_ℤ negative (All-contains (λ f. pos 0 ≤ℤ value_at f point) old_forms form met has);

@@ -6,7 +6,7 @@ use Rattle.design_problem.specs.Problems.{DesignProblem}
 use Rattle.design_problem.specs.Boxes.{IsInBox, capped}
 use Rattle.design_problem.specs.Rows.{IsFit, LeadsEach, box_of, forms_of_rows}
 use Rattle.design_problem.specs.Trees.{IsClosed, entry_count}
-use Rattle.form_search.specs.Finds.{IsSearchTree}
+use Rattle.design_problem.specs.SearchTrees.{IsSearchTree}
 use Rattle.form_search.specs.declared.found.Found.{Found}
 use Rattle.form_search.specs.declared.found.Found.TheVariants.{Costs, Refuted, Undecided}
 use Rattle.cost_branching.specs.Pools.{Pooled}
@@ -15,8 +15,8 @@ use Rattle.cost_branching.specs.Pools.{Pooled}
 abbrev pub IsTreeAt : DesignProblem → ℕ → ℕ → Pooled → List Entry → Type 0
 IsTreeAt p top cap pool tree = IsSearchTree (LeadsEach p) top (forms_of_rows p pool.rows) (capped (box_of p) cap) tree
 
--- What is decided at a cap: fit costs of at most the cap; a closed tree of at most N entries; or, where the budget was used up, a
--- tree with an Undone and exactly N entries.
+-- What is decided at a cap: fit costs of at most the cap; a closed tree of at most N entries; or, where the budget was
+-- used up, a tree with an Undone and exactly N entries.
 abbrev pub IsDecided : DesignProblem → ℕ → ℕ → ℕ → Pooled → Found → Type 0
 IsDecided p top nodes cap pool (Costs w) = IsFit p w × IsInBox (capped (box_of p) cap) w
 IsDecided p top nodes cap pool (Refuted tree) = IsTreeAt p top cap pool tree × IsClosed tree × (entry_count tree ≤ nodes)

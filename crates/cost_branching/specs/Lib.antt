@@ -1,7 +1,7 @@
 pub mod Pools
 pub mod Decisions
-pub mod Advising
-pub mod Candidates
+pub mod AdvisorsAsked
+pub mod PossibleForms
 pub mod Rivals
 pub mod Asking
 pub mod SourceLaws

@@ -1,11 +1,10 @@
 -- The source of a search whose forms are those of the rivals of a problem's wanted paths.
 use Rattle.std.specs.Prelude.{◌≡◌, ℕ, ◌+◌, ◌<◌, List, [], ◌++◌, slice_get}
 use Rattle.area_graph.specs.declared.Point.{Point}
-use Rattle.area_graph.specs.Area.{FitsGraph, HasMetrics}
 use Rattle.area_graph.specs.Costs.{cost}
 use Rattle.design_problem.specs.Forms.{Form}
 use Rattle.design_problem.specs.declared.form.Row.{Row}
-use Rattle.design_problem.specs.Problems.{DesignProblem, IsProblem}
+use Rattle.design_problem.specs.Problems.{DesignProblem, IsProblemOnGraph}
 use Rattle.design_problem.specs.Rows.{IsRivalOf, path_edges}
 use Rattle.design_problem.specs.Earnest.{IsFormOfRow}
 use Rattle.form_search.specs.Sources.{Grows}
@@ -18,13 +17,7 @@ pub record KnownRows : Type 0 where
 
 -- what stands for a problem where none is picked
 abbrev pub no_problem : DesignProblem
-no_problem = record { graph = record { vertices = []; edges = [] }; vars = []; low = []; high = []; paths = [] }
-
--- what every problem and its graph keep
-pub record IsProblemOnGraph (p : DesignProblem) : Type 0 where
-  pub problem : IsProblem p
-  pub graph : FitsGraph p.graph
-  pub metrics : HasMetrics p.graph
+no_problem = record { graph = record { vertices = []; edges = [] }; vars = []; low = []; high = []; requests = [] }
 
 -- a true form: that of a row of the problem
 pub record IsTrueRowForm (p : DesignProblem) (form : Form) : Type 0 where
@@ -33,8 +26,8 @@ pub record IsTrueRowForm (p : DesignProblem) (form : Form) : Type 0 where
 
 -- a rival of a request that costs less at a point than its path and the scale
 pub record IsRivalTooCheap (p : DesignProblem) (point : Point) (request : ℕ) (edges : List ℕ) : Type 0 where
-  pub rival : IsRivalOf p.graph (slice_get p.paths request) edges
-  pub cheap : cost p.graph point edges < cost p.graph point (path_edges (slice_get p.paths request)) + point.scale
+  pub rival : IsRivalOf p.graph (slice_get p.requests request) edges
+  pub cheap : cost p.graph point edges < cost p.graph point (path_edges (slice_get p.requests request)) + point.scale
 
 -- the problem of a search and its pool's rows are those with which it began
 pub record IsBegunWith (begun : DesignProblem) (first : List Row) (p : DesignProblem) (pool : Pooled) : Type 0 where

@@ -1,7 +1,7 @@
--- Laws of the source of rivals: its true forms hold where each path leads, they stand in one list, and a path that leads
--- at multiples of costs leads at the costs.
+-- Laws of the source of rivals: its true forms hold where each path leads, they stand in one list, and a path that
+-- leads at multiples of costs leads at the costs.
 use Rattle.std.proofs.Common.{◌≡◌, ℕ, zero, suc, ◌+◌, ◌*◌, ◌^◌, ◌<◌, ◌≤◌, refl, sym, ◌∙◌, subst, ap, inl, inr, get_or, List, [], ◌∷◌, map, length, arith}
-use Rattle.std.specs.Prelude.{ℤ, pos, ◌-ℤ◌, ◌≤ℤ◌, nat_abs, All, Contains, slice_get, slice_index}
+use Rattle.std.specs.Prelude.{ℤ, pos, ◌-ℤ◌, ◌≤ℤ◌, nat_abs, All, Contains, slice_get}
 use Rattle.std.proofs.lemmas.Int.{ints}
 use Rattle.std.proofs.lemmas.List.{length-map, get_or-map}
 use Rattle.std.proofs.lemmas.List.Elements.{Contains-append_left, Contains-append_right}
@@ -28,7 +28,8 @@ use Rattle.design_problem.proofs.FormSizes.{value_size}
 use Rattle.design_problem.proofs.PathBounds.{path-known, simple-short}
 use Rattle.design_problem.proofs.RowForms.{RowPaths, route_of_rival, row_paths}
 use Rattle.form_search.specs.Sources.{IsTrueForm, scaled}
-use Rattle.cost_branching.specs.Candidates.{begun_by, candidate_forms, edge_lists, forms_of_requests, lists_within}
+use Rattle.form_search.proofs.CostPoints.{scaled_at}
+use Rattle.cost_branching.specs.PossibleForms.{begun_by, possible_forms_of_problem, edge_lists, forms_of_requests, lists_within}
 use Rattle.cost_branching.specs.Rivals.{IsTrueRowForm}
 
 -- The value of a form of two paths at a point.
@@ -44,9 +45,9 @@ value_between p point wanted rival kept count =
     (value-form_between p.graph point wanted rival priced)
 
 -- where each wanted path leads, a rival costs at least the scale more
-pub rival_dearer : (g : Area) (point : Point) (paths : List Request) (k : ℕ) (es : List ℕ) →
-    All (λ r. LeadsBy point.scale g point (request_ends r) r.path.edges) paths → IsRivalOf g (slice_get paths k) es →
-    cost g point (path_edges (slice_get paths k)) + point.scale ≤ cost g point es
+pub rival_dearer : (g : Area) (point : Point) (requests : List Request) (k : ℕ) (es : List ℕ) →
+    All (λ r. LeadsBy point.scale g point (request_ends r) r.path.edges) requests → IsRivalOf g (slice_get requests k) es →
+    cost g point (path_edges (slice_get requests k)) + point.scale ≤ cost g point es
 rival_dearer g point [] k es leads rival = absurd rival
 rival_dearer g point (r ∷ rs) zero es leads rival = leads 0 no_request (omega arith) es rival.0 rival.1
 rival_dearer g point (r ∷ rs) (suc k) es leads rival = rival_dearer g point rs k es (λ i d i_in. leads (suc i) d (omega arith)) rival
@@ -55,14 +56,14 @@ rival_dearer g point (r ∷ rs) (suc k) es leads rival = rival_dearer g point rs
 
 -- the wanted path of a row
 abbrev path_at : DesignProblem → Row → List ℕ
-path_at p row = (get_or p.paths row.request no_request).path.edges
+path_at p row = (get_or p.requests row.request no_request).path.edges
 
 -- the paths of a row are the wanted one of its request and its rival
 pub paths_of_row : (p : DesignProblem) (row : Row) → IsProblem p →
-    IsRivalOf p.graph (slice_get p.paths row.request) row.rival →
+    IsRivalOf p.graph (slice_get p.requests row.request) row.rival →
     RowPaths p row no_request (path_at p row) row.rival
 paths_of_row p row kept rival =
-    row_paths p row no_request (path_at p row) row.rival kept (route_of_rival p.graph (slice_get p.paths row.request) row.rival rival) refl refl
+    row_paths p row no_request (path_at p row) row.rival kept (route_of_rival p.graph (slice_get p.requests row.request) row.rival rival) refl refl
 
 -- a rival that costs at least the scale more has a value of at least 0
 pub at_least : (rival wanted scale : ℕ) → wanted + scale ≤ rival → pos 0 ≤ℤ ((pos rival -ℤ pos wanted) -ℤ pos scale)
@@ -70,12 +71,12 @@ at_least rival wanted scale dearer = omega (arith, ints)
 
 -- a row's form is at least 0 where each wanted path leads
 pub rival_row_met : (p : DesignProblem) (point : Point) (row : Row) → IsProblem p → length point.values ≡ length p.low →
-    IsRivalOf p.graph (slice_get p.paths row.request) row.rival → LeadsEach p point →
+    IsRivalOf p.graph (slice_get p.requests row.request) row.rival → LeadsEach p point →
     pos 0 ≤ℤ value_at (form_of_row p row) point
 rival_row_met p point row kept count rival leads =
-    subst (λ (z : ℤ). pos 0 ≤ℤ z) (sym (value_between p point (path_edges (slice_get p.paths row.request)) row.rival kept count))
-    (at_least (cost p.graph point row.rival) (cost p.graph point (path_edges (slice_get p.paths row.request)))
-    point.scale (rival_dearer p.graph point p.paths row.request row.rival leads rival))
+    subst (λ (z : ℤ). pos 0 ≤ℤ z) (sym (value_between p point (path_edges (slice_get p.requests row.request)) row.rival kept count))
+    (at_least (cost p.graph point row.rival) (cost p.graph point (path_edges (slice_get p.requests row.request)))
+    point.scale (rival_dearer p.graph point p.requests row.request row.rival leads rival))
 
 -- a number below one that is at most another is below it
 below : (a b c : ℕ) → a ≤ b → b < c → a < c
@@ -91,10 +92,10 @@ small_value n form w small each =
 pub rival_forms_hold : (p : DesignProblem) (form : Form) → IsTrueRowForm p form → IsTrueForm (length p.low) (LeadsEach p) form
 rival_forms_hold p form is =
     let row = is.of_row.row in
-    let paths = paths_of_row p row is.kept.problem is.of_row.is_row in
-    let small = subst (λ (f : Form). IsSmallForm (length p.low) f) (paths.form ∙ is.of_row.same)
+    let pair = paths_of_row p row is.kept.problem is.of_row.is_row in
+    let small = subst (λ (f : Form). IsSmallForm (length p.low) f) (pair.form ∙ is.of_row.same)
     (simple_form_small p.graph (length p.low) _ _ (path_at p row) row.rival is.kept.graph is.kept.metrics
-    is.kept.problem.priced paths.wanted_path paths.rival_path) in
+    is.kept.problem.priced pair.wanted_path pair.rival_path) in
     record {
       count = small.count;
       sizes = small.sizes;
@@ -103,7 +104,7 @@ rival_forms_hold p form is =
           (rival_row_met p point row is.kept.problem count is.of_row.is_row leads);
     }
 
--- Every true form stands in the list of the candidates.
+-- Every true form stands in the list of the possible forms.
 
 -- a mapped list holds what the function makes of its elements
 pub contains-map : {X Y : Type 0} (f : X → Y) (xs : List X) (x : X) → Contains xs x → Contains (map f xs) (f x)
@@ -134,9 +135,9 @@ number-listed : (n e : ℕ) → e < n → Contains (numbers_from 0 n) e
 number-listed n e known = (e, omega (arith, length-numbers_from 0 n), get_or-numbers_from 0 n e e known ∙ omega arith)
 
 -- the form of a rival is among the forms of the requests, where its edges are among the short lists
-form-listed : (p : DesignProblem) (paths : List Request) (k : ℕ) (es : List ℕ) →
-    IsRivalOf p.graph (slice_get paths k) es → Contains (edge_lists p) es →
-    Contains (forms_of_requests p paths) (form_between p.graph (length p.low) (path_edges (slice_get paths k)) es)
+form-listed : (p : DesignProblem) (requests : List Request) (k : ℕ) (es : List ℕ) →
+    IsRivalOf p.graph (slice_get requests k) es → Contains (edge_lists p) es →
+    Contains (forms_of_requests p requests) (form_between p.graph (length p.low) (path_edges (slice_get requests k)) es)
 form-listed p [] k es rival has = absurd rival
 form-listed p (r ∷ rs) zero es rival has =
     Contains-append_left (map (form_between p.graph (length p.low) r.path.edges) (edge_lists p))
@@ -155,21 +156,15 @@ path_listed p ends es fits path =
     within-listed (numbers_from 0 (length p.graph.edges)) (length p.graph.vertices) es
     (λ k d k_in. number-listed (length p.graph.edges) (get_or es k d) (known k d k_in)) (omega (arith, short))
 
--- each true form is among the candidates
-pub rival_forms_listed : (p : DesignProblem) (form : Form) → IsTrueRowForm p form → Contains (candidate_forms p) form
+-- each true form is among the possible forms
+pub rival_forms_listed : (p : DesignProblem) (form : Form) → IsTrueRowForm p form → Contains (possible_forms_of_problem p) form
 rival_forms_listed p form is =
     let row = is.of_row.row in
     let path = (paths_of_row p row is.kept.problem is.of_row.is_row).rival_path in
     let has = path_listed p _ row.rival is.kept.graph path in
-    subst (λ (f : Form). Contains (candidate_forms p) f) is.of_row.same (form-listed p p.paths row.request row.rival is.of_row.is_row has)
+    subst (λ (f : Form). Contains (possible_forms_of_problem p) f) is.of_row.same (form-listed p p.requests row.request row.rival is.of_row.is_row has)
 
 -- A path that leads at multiples of costs leads at the costs.
-
--- the value of a variable at multiples of costs
-scaled_at : (w : List ℕ) (scale v : ℕ) → slice_index (map (λ x. x * scale) w) v ≡ slice_index w v * scale
-scaled_at [] scale v = omega arith
-scaled_at (x ∷ w) scale zero = refl
-scaled_at (x ∷ w) scale (suc v) = scaled_at w scale v
 
 -- a price at multiples of costs is that multiple of the price at the costs
 scaled_price : (w : List ℕ) (scale : ℕ) (price : Price) → price_at (scaled w scale) price ≡ price_at (at_costs w) price * scale
@@ -197,7 +192,7 @@ multiple_divided a b scale some more =
 -- where each wanted path leads at multiples of costs, each leads at the costs
 pub rival_scale_is_free : (p : DesignProblem) (w : List ℕ) (scale : ℕ) → 0 < scale → LeadsEach p (scaled w scale) → LeadsEach p (at_costs w)
 rival_scale_is_free p w scale some leads k d k_in other path differs =
-    let wanted = (get_or p.paths k d).path.edges in
+    let wanted = (get_or p.requests k d).path.edges in
     let more = leads k d k_in other path differs in
     multiple_divided (cost p.graph (at_costs w) wanted) (cost p.graph (at_costs w) other) scale some
     (subst (λ (n : ℕ). n + scale ≤ cost p.graph (at_costs w) other * scale) (scaled_cost p.graph w scale wanted)

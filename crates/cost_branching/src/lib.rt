@@ -11,4 +11,4 @@ mod rivals;
 pub use form_search::Found;
 pub use one_cap::{decide, decide_within};
 pub use pool::Pool;
-pub use rivals::{Begun, Rivals, keeps_conditions, path_count, row_of, variable_count};
+pub use rivals::{Begun, Rivals, request_count, row_of, variable_count};

@@ -3,17 +3,17 @@ ghost use Rattle.std.specs.Prelude.{◌≤◌, length, All, IfOk, OnOk};
 ghost use Rattle.design_problem.specs.Boxes.{IsBox, capped};
 ghost use Rattle.design_problem.specs.Earnest.{IsLeastPoint};
 ghost use Rattle.design_problem.specs.Rows.{LeadsEach, box_of};
-ghost use Rattle.form_search.specs.Advised.{AreAdvised, AreCalled};
+ghost use Rattle.form_search.specs.AdvisorsAsked.{AreAdvised, AreCalled};
 ghost use Rattle.form_search.specs.Finds.{IsSearchResult};
 ghost use Rattle.cost_branching.specs.Pools.{IsRowPool, MoreRows};
 ghost use Rattle.cost_branching.specs.Decisions.{IsDecided};
 ghost use Rattle.cost_branching.specs.Rivals.{GrowsByRows, IsBegunWith};
 
-use crate::rivals::{Begun, Rivals, keeps_conditions};
+use crate::rivals::{Begun, Rivals};
 use crate::{Found, Pool};
 use cost_base::OutOfMemory;
 use cut_advisors::Advisor;
-use design_problem::{CostBox, Problem, box_at};
+use design_problem::{CostBox, Problem, box_at, keeps_problem_on_graph};
 use form_search::search;
 use rival_separation::Asker;
 use std::marker::Brand;
@@ -47,9 +47,9 @@ fn search_rivals<B: Begun>(
         (IsLeastPoint (LeadsEach problem.now)) costs.now result advisors.old.items
         advisors.new.items }
 {
-    keeps_conditions(problem);
+    keeps_problem_on_graph(problem);
     let alloc = pool.alloc();
-    let asker = Asker::new(alloc, &problem.graph, problem.paths.as_slice())?;
+    let asker = Asker::new(alloc, &problem.graph, problem.requests.as_slice())?;
     let rows = mem::replace(&mut pool.rows, Vec::new(alloc));
     let mut source = Rivals::<B>::new(problem, asker, rows);
     let found = search(&mut source, costs, limits, &mut pool.forms, advisors);
@@ -89,7 +89,7 @@ pub fn decide_within(
         (IsLeastPoint (LeadsEach problem.now)) costs.now result advisors.old.items
         advisors.new.items }
 {
-    keeps_conditions(problem);
+    keeps_problem_on_graph(problem);
     let begun = pool.rows().len();
     match search_rivals::<Brand>(problem, costs, limits, pool, advisors) {
         Ok(found) => Ok(found),
@@ -134,7 +134,7 @@ pub fn decide(
     ensures advisors { AreCalled ⟦<dyn Advisor as Advisor>⟧ (λ b. b.vtable) (λ b. state b)
         advisors.old.items advisors.new.items }
 {
-    keeps_conditions(problem);
+    keeps_problem_on_graph(problem);
     let costs = box_at(pool.alloc(), problem, cap)?;
     decide_within(problem, &costs, limits, pool, advisors)
 }

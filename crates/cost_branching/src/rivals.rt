@@ -5,14 +5,14 @@ ghost use Rattle.design_problem.specs.Forms.{AreMet};
 ghost use Rattle.rival_separation.specs.Askers.{AreCheapestRivals, IsAskerFor};
 ghost use Rattle.form_search.specs.Sources.{Grows, IsCostPoint};
 ghost use Rattle.cost_branching.specs.Pools.{ArePoolRows};
-ghost use Rattle.cost_branching.specs.Rivals.{BeginWith, IsProblemOnGraph, IsTrueRowForm};
+ghost use Rattle.cost_branching.specs.Rivals.{BeginWith, IsTrueRowForm};
 ghost use Rattle.cost_branching.specs.Asking.{AreAllRequestsAsked, IsRequestAsked};
 ghost use Rattle.area_graph.specs.declared.Point.{Point};
 
 use area_graph::Point;
 use cost_base::{Listed, OutOfMemory};
-use design_problem::{Problem, Row, form_of};
-use form_search::{Asked, FormPool, RowSource};
+use design_problem::{Problem, Row, form_of, keeps_problem_on_graph};
+use form_search::{Asked, FormPool, FormSource};
 use rival_separation::Asker;
 use std::alloc::Global;
 use std::marker::{Brand, Model, PhantomData};
@@ -61,24 +61,16 @@ impl<'a, B: Begun> Model for Rivals<'a, B> {
 
     ghost invariant = { λ s. record {
       problem : s.problem.now ≡ B.problem;
-      asker : IsAskerFor s.problem.now.graph s.problem.now.paths s.asker;
+      asker : IsAskerFor s.problem.now.graph s.problem.now.requests s.asker;
       begun : BeginWith B.rows s.rows.items;
     } };
 }
 
-/// For the prover alone: keeps that a problem meets the conditions of its type, and its graph those of a graph; takes
-/// no time and changes nothing.
-pub fn keeps_conditions(problem: &Problem)
-    ensures { IsProblemOnGraph problem.now }
+/// How many requests a problem has.
+pub fn request_count(problem: &Problem) -> u32
+    ensures { result ≡ length problem.now.requests }
 {
-    problem.graph.keeps_conditions();
-}
-
-/// How many wanted paths a problem has.
-pub fn path_count(problem: &Problem) -> u32
-    ensures { result ≡ length problem.now.paths }
-{
-    problem.paths.as_slice().len() as u32
+    problem.requests.as_slice().len() as u32
 }
 
 /// How many variables a problem has.
@@ -108,25 +100,25 @@ fn cheapest_rivals(
     asker: &mut Asker,
     point: &Point,
 ) -> Result<Vec<Option<Listed<u32>>>, OutOfMemory>
-    requires asker { IsAskerFor problem.now.graph problem.now.paths asker.old }
+    requires asker { IsAskerFor problem.now.graph problem.now.requests asker.old }
     requires point { IsCostPoint (length problem.now.low) point.now }
-    ensures asker { IsAskerFor problem.now.graph problem.now.paths asker.new }
+    ensures asker { IsAskerFor problem.now.graph problem.now.requests asker.new }
     ensures rivals { IfOk result (λ rivals. AreCheapestRivals problem.now.graph point.now
-        problem.now.paths rivals.items) }
+        problem.now.requests rivals.items) }
 {
-    keeps_conditions(problem);
-    asker.cheapest_rivals(alloc, &problem.graph, problem.paths.as_slice(), point)
+    keeps_problem_on_graph(problem);
+    asker.cheapest_rivals(alloc, &problem.graph, problem.requests.as_slice(), point)
 }
 
 /// Whether each wanted path leads at the point by the scale.
 fn all_lead(problem: &Problem, asker: &mut Asker, point: &Point) -> bool
-    requires asker { IsAskerFor problem.now.graph problem.now.paths asker.old }
+    requires asker { IsAskerFor problem.now.graph problem.now.requests asker.old }
     requires point { IsCostPoint (length problem.now.low) point.now }
-    ensures asker { IsAskerFor problem.now.graph problem.now.paths asker.new }
+    ensures asker { IsAskerFor problem.now.graph problem.now.requests asker.new }
     ensures leads { IsTrue result ↔ LeadsEach problem.now point.now }
 {
-    keeps_conditions(problem);
-    asker.each_leads(&problem.graph, problem.paths.as_slice(), point)
+    keeps_problem_on_graph(problem);
+    asker.each_leads(&problem.graph, problem.requests.as_slice(), point)
 }
 
 /// What is told of the request of that number: the edges of its cheapest rival, or None.
@@ -167,17 +159,17 @@ fn ask_one(
     rows: &mut Vec<Row>,
     pool: &mut FormPool,
 ) -> Result<bool, OutOfMemory>
-    requires request { request < length problem.now.paths }
-    requires known { (point : Point) × AreCheapestRivals problem.now.graph point problem.now.paths
-        rivals.now }
+    requires request { request < length problem.now.requests }
+    requires known { (point : Point) × AreCheapestRivals problem.now.graph point
+        problem.now.requests rivals.now }
     ensures one { IfOk result (λ asked. (point : Point) → AreCheapestRivals problem.now.graph point
-        problem.now.paths rivals.now → IsRequestAsked point request
+        problem.now.requests rivals.now → IsRequestAsked point request
         (record { problem = problem.now; rows = rows.old.items }) pool.old
         (record { problem = problem.now; rows = rows.new.items }) pool.new asked) }
     ensures same_rows { OnErr result (rows.new.items ≡ rows.old.items) }
     ensures same_forms { OnErr result (pool.new ≡ pool.old) }
 {
-    keeps_conditions(problem);
+    keeps_problem_on_graph(problem);
     match told_of(rivals, request) {
         Some(edges) => {
             let row = row_of(pool.alloc(), request, edges.as_slice())?;
@@ -198,7 +190,7 @@ fn ask_each(
     pool: &mut FormPool,
 ) -> Result<Asked, OutOfMemory>
     // The asker is one for the problem's requests, and the rows are the problem's, none twice.
-    requires asker { IsAskerFor problem.now.graph problem.now.paths asker.old }
+    requires asker { IsAskerFor problem.now.graph problem.now.requests asker.old }
     requires rows { ArePoolRows problem.now rows.old.items }
 
     // The point is one of costs, and no form of the rows is negative there.
@@ -206,7 +198,7 @@ fn ask_each(
     requires met { AreMet (forms_of_rows problem.now rows.old.items) point.now }
 
     // All requests were asked, and the pool has got the forms of the rows that came.
-    ensures asker { IsAskerFor problem.now.graph problem.now.paths asker.new }
+    ensures asker { IsAskerFor problem.now.graph problem.now.requests asker.new }
     ensures asked { IfOk result
         (AreAllRequestsAsked point.now (record { problem = problem.now; rows = rows.old.items })
         pool.old (record { problem = problem.now; rows = rows.new.items }) pool.new) }
@@ -217,7 +209,7 @@ fn ask_each(
 {
     let rivals = cheapest_rivals(pool.alloc(), problem, asker, point)?;
     let told = rivals.as_slice();
-    let count = path_count(problem);
+    let count = request_count(problem);
     let mut asked = Asked::Nothing;
     for request in 0..count {
         if ask_one(problem, told, request, rows, pool)? {
@@ -231,7 +223,7 @@ impl<'a, B: Begun> Rivals<'a, B> {
     /// The rivals of a problem's paths, where a search begins with these rows.
     pub fn new(problem: &'a Problem, asker: Asker, rows: Vec<Row>) -> Rivals<'a, B>
         requires problem { problem.now ≡ B.problem }
-        requires asker { IsAskerFor problem.now.graph problem.now.paths asker }
+        requires asker { IsAskerFor problem.now.graph problem.now.requests asker }
         requires begun { rows.items ≡ B.rows }
         ensures { result ≡ record { problem = problem.now; rows = rows.items } }
     {
@@ -305,11 +297,11 @@ impl<'a, B: Begun> Rivals<'a, B> {
     }
 }
 
-impl<'a, B: Begun> RowSource for Rivals<'a, B> {
+impl<'a, B: Begun> FormSource for Rivals<'a, B> {
     ghost use Rattle.std.specs.Prelude.{length};
     ghost use Rattle.design_problem.specs.Rows.{LeadsEach};
     ghost use Rattle.cost_branching.specs.Pools.{IsRowPool};
-    ghost use Rattle.cost_branching.specs.Candidates.{candidate_forms};
+    ghost use Rattle.cost_branching.specs.PossibleForms.{possible_forms_of_problem};
     ghost use Rattle.cost_branching.specs.Rivals.{IsTrueRowForm};
     ghost use Rattle.cost_branching.specs.SourceLaws.{rival_scale_is_free, rival_forms_hold, rival_forms_listed};
 
@@ -321,7 +313,7 @@ impl<'a, B: Begun> RowSource for Rivals<'a, B> {
 
     ghost in_step = { λ s forms. IsRowPool s.problem (record { rows = s.rows; forms = forms }) };
 
-    ghost candidates = { λ s. candidate_forms s.problem };
+    ghost possible_forms = { λ s. possible_forms_of_problem s.problem };
 
     fn variables(&self) -> u32 {
         variable_count(self.problem)

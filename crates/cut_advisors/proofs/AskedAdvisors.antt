@@ -35,31 +35,32 @@ told_all R whole all now beyond i n same h long before =
 
 -- what is chosen of the advisors that are still there is chosen of the whole
 abbrev pub IsAsked : {A : Type 0} → List A → List A → ℕ → (A → ℕ) → (A → A → Type 0) → Type 0
-IsAsked whole now choices would Asked = (answer : ℕ) (left : List _) → IsChosen would Asked choices now answer left →
-    IsChosen would Asked choices whole answer left
+IsAsked whole now candidates would Asked = (answer : ℕ) (left : List _) → IsChosen would Asked candidates now answer left →
+    IsChosen would Asked candidates whole answer left
 
 -- the first one is out of range, and is removed
-pub chosen_later : {A : Type 0} (would : A → ℕ) (Asked : A → A → Type 0) (choices : ℕ) (now removed : List A) (b e : A)
-    (picked : ℕ) → 0 < length now → b ≡ get_or now 0 b → picked ≡ would b → choices ≤ picked →
-    removed ≡ remove (set now 0 e) 0 → (answer : ℕ) (left : List A) → IsChosen would Asked choices removed answer left →
-    IsChosen would Asked choices now answer left
-chosen_later would Asked choices [] removed b e picked h is said out excluded answer left rest = absurd (omega arith)
-chosen_later would Asked choices (a ∷ others) removed b e picked h is said out excluded answer left rest =
-    let P : List _ → Type 0 = λ l. IsChosen would Asked choices l answer left in
+pub chosen_later : {A : Type 0} (would : A → ℕ) (Asked : A → A → Type 0) (candidates : ℕ) (now removed : List A) (b e : A)
+    (picked : ℕ) → 0 < length now → b ≡ get_or now 0 b → picked ≡ would b → candidates ≤ picked →
+    removed ≡ remove (set now 0 e) 0 → (answer : ℕ) (left : List A) → IsChosen would Asked candidates removed answer left →
+    IsChosen would Asked candidates now answer left
+chosen_later would Asked candidates [] removed b e picked h is said out excluded answer left rest = absurd (omega arith)
+chosen_later would Asked candidates (a ∷ others) removed b e picked h is said out excluded answer left rest =
+    let P : List _ → Type 0 = λ l. IsChosen would Asked candidates l answer left in
     let same : would b ≡ would a = ap would is in
     (λ within. absurd (omega arith), λ _. subst P excluded rest)
 
 -- the first one answers
-pub chosen_here : {A : Type 0} (would : A → ℕ) (Asked : A → A → Type 0) (choices : ℕ) (now : List A) (b e : A)
-    (picked : ℕ) → 0 < length now → b ≡ get_or now 0 b → picked ≡ would b → picked < choices → Asked b e →
-    IsChosen would Asked choices now picked (set now 0 e)
-chosen_here would Asked choices [] b e picked h is said within asked = absurd (omega arith)
-chosen_here would Asked choices (a ∷ others) b e picked h is said within asked =
+pub chosen_here : {A : Type 0} (would : A → ℕ) (Asked : A → A → Type 0) (candidates : ℕ) (now : List A) (b e : A)
+    (picked : ℕ) → 0 < length now → b ≡ get_or now 0 b → picked ≡ would b → picked < candidates → Asked b e →
+    IsChosen would Asked candidates now picked (set now 0 e)
+chosen_here would Asked candidates [] b e picked h is said within asked = absurd (omega arith)
+chosen_here would Asked candidates (a ∷ others) b e picked h is said within asked =
     let T : _ → Type 0 = λ x. Asked x e in
     let same : would b ≡ would a = ap would is in
     (λ _. (said ∙ same, record { first = e; those_left = refl; asked = subst T is asked }), λ out. absurd (omega arith))
 
 -- none is there
-pub chosen_none : {A : Type 0} (would : A → ℕ) (Asked : A → A → Type 0) (choices : ℕ) (now : List A) → length now ≡ 0 → IsChosen would Asked choices now 0 now
-chosen_none would Asked choices [] h = (refl, refl)
-chosen_none would Asked choices (a ∷ others) h = absurd (omega arith)
+pub chosen_none : {A : Type 0} (would : A → ℕ) (Asked : A → A → Type 0) (candidates : ℕ) (now : List A) → length now ≡ 0 →
+    IsChosen would Asked candidates now 0 now
+chosen_none would Asked candidates [] h = (refl, refl)
+chosen_none would Asked candidates (a ∷ others) h = absurd (omega arith)

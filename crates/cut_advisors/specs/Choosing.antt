@@ -7,10 +7,11 @@ pub record StandsFirst {A : Type 0} (Asked : A → A → Type 0) (advisor : A) (
   pub those_left : left ≡ first ∷ others
   pub asked : Asked advisor first
 
--- The answer is that of the first advisor for which it is below the number of choices. Those before it are dropped, it
--- is itself as `Asked` says, and those after it are as they were. With none in range the answer is 0, and none is left.
+-- The answer is that of the first advisor for which it is below the number of candidates. Those before it are dropped,
+-- it is itself as `Asked` says, and those after it are as they were. With none in range the answer is 0, and none is
+-- left.
 abbrev pub IsChosen : {A : Type 0} → (A → ℕ) → (A → A → Type 0) → ℕ → List A → ℕ → List A → Type 0
-IsChosen would Asked choices [] answer left = (answer ≡ 0) × (left ≡ [])
-IsChosen would Asked choices (advisor ∷ others) answer left =
-    (would advisor < choices → (answer ≡ would advisor) × StandsFirst Asked advisor others left)
-    × (choices ≤ would advisor → IsChosen would Asked choices others answer left)
+IsChosen would Asked candidates [] answer left = (answer ≡ 0) × (left ≡ [])
+IsChosen would Asked candidates (advisor ∷ others) answer left =
+    (would advisor < candidates → (answer ≡ would advisor) × StandsFirst Asked advisor others left)
+    × (candidates ≤ would advisor → IsChosen would Asked candidates others answer left)

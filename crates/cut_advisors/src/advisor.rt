@@ -19,10 +19,10 @@ pub trait Advisor: Drop {
 
     ghost after: { List ℕ → Entry → List ℕ };
 
-    /// The position among the choices of the one that the advisor picks. Any number may come.
-    fn pick(&mut self, choices: &[Candidate]) -> u32
-        ensures answer { result ≡ would (state self.old) choices.now }
-        ensures state { state self.new ≡ left (state self.old) choices.now };
+    /// The position among the candidates of the one that the advisor picks. Any number may come.
+    fn pick(&mut self, candidates: &[Candidate]) -> u32
+        ensures answer { result ≡ would (state self.old) candidates.now }
+        ensures state { state self.new ≡ left (state self.old) candidates.now };
 
     /// Is told an entry that was added to the tree.
     fn told(&mut self, entry: &Entry)

@@ -7,14 +7,14 @@ use crate::{Advisor, Candidate};
 use design_problem::Entry;
 
 /// The answer of one advisor.
-fn ask(advisor: &mut Box<dyn Advisor>, choices: &[Candidate]) -> u32
+fn ask(advisor: &mut Box<dyn Advisor>, candidates: &[Candidate]) -> u32
     ensures answer { result ≡ (⟦<dyn Advisor as Advisor>⟧ advisor.old.vtable).would
-        (state advisor.old) choices.now }
+        (state advisor.old) candidates.now }
     ensures state { state advisor.new ≡ (⟦<dyn Advisor as Advisor>⟧ advisor.old.vtable).left
-        (state advisor.old) choices.now }
+        (state advisor.old) candidates.now }
     ensures itself { advisor.new.vtable ≡ advisor.old.vtable }
 {
-    advisor.pick(choices)
+    advisor.pick(candidates)
 }
 
 /// Tells one advisor.
@@ -26,21 +26,21 @@ fn tell_one(advisor: &mut Box<dyn Advisor>, entry: &Entry)
     advisor.told(entry)
 }
 
-/// The position among the choices that the first advisor with an answer in range picks; 0 where none has one.
+/// The position among the candidates that the first advisor with an answer in range picks; 0 where none has one.
 ///
 /// The advisors before it, whose answers are out of range, are removed and dropped, and no other. It keeps its rules
 /// and stands at the state that its answer leaves; those after it stay as they are. No memory is taken.
-pub fn choose(advisors: &mut Vec<Box<dyn Advisor>>, choices: &[Candidate]) -> u32
-    requires { 0 < length choices.now }
-    ensures in_range { result < length choices.now }
+pub fn choose(advisors: &mut Vec<Box<dyn Advisor>>, candidates: &[Candidate]) -> u32
+    requires { 0 < length candidates.now }
+    ensures in_range { result < length candidates.now }
     ensures chosen { IsChosen (λ b. (⟦<dyn Advisor as Advisor>⟧ b.vtable).would (state b)
-        choices.now) (λ b c. (c.vtable ≡ b.vtable) ×
-        (state c ≡ (⟦<dyn Advisor as Advisor>⟧ b.vtable).left (state b) choices.now))
-        (length choices.now) advisors.old.items result advisors.new.items }
+        candidates.now) (λ b c. (c.vtable ≡ b.vtable) ×
+        (state c ≡ (⟦<dyn Advisor as Advisor>⟧ b.vtable).left (state b) candidates.now))
+        (length candidates.now) advisors.old.items result advisors.new.items }
 {
     while !advisors.is_empty() {
-        let answer = ask(&mut advisors[0], choices);
-        if (answer as usize) < choices.len() {
+        let answer = ask(&mut advisors[0], candidates);
+        if (answer as usize) < candidates.len() {
             return answer;
         }
         advisors.remove(0);

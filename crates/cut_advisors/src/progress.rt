@@ -71,7 +71,7 @@ impl<R: Clock + Eprint + Drop> Advisor for Progress<R> {
 
     ghost after = { λ _ _. [] };
 
-    fn pick(&mut self, _choices: &[Candidate]) -> u32 {
+    fn pick(&mut self, _candidates: &[Candidate]) -> u32 {
         0
     }
 

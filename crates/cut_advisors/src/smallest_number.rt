@@ -1,9 +1,9 @@
-//! The advisor that picks the first choice.
+//! The advisor that picks the first candidate.
 
 use crate::{Advisor, Candidate};
 use design_problem::Entry;
 
-/// Picks the first choice, which is the one of the smallest number where they come in order. It has no state.
+/// Picks the first candidate, which is the one of the smallest number where they come in order. It has no state.
 #[derive(Drop)]
 pub struct SmallestNumber;
 
@@ -18,7 +18,7 @@ impl Advisor for SmallestNumber {
 
     ghost after = { λ _ _. [] };
 
-    fn pick(&mut self, _choices: &[Candidate]) -> u32 {
+    fn pick(&mut self, _candidates: &[Candidate]) -> u32 {
         0
     }
 

@@ -21,11 +21,11 @@ use Rattle.database_commands.specs.Compared.{ReportsLines}
 
 -- the lines of the network are those of what was read
 lines_are : (names : InputFiles) (network : Network) (c : Comparison) (live : List Lsa) → IsNetworkOf AtPresent names network c.input → live ≡ c.live →
-    difference_lines network.configs.items network.lsdb (map (present_cost network.requests) network.lsdb.links) live ≡ differences_of c
+    difference_lines network.configs.items network.lsdb (map (present_cost network.request_file) network.lsdb.links) live ≡ differences_of c
 lines_are names network c live is same =
-    ap (λ (ls : List Lsa). difference_lines network.configs.items network.lsdb (map (present_cost network.requests) network.lsdb.links) ls) same
-    ∙ ap (λ (rs : List Router). difference_lines rs network.lsdb (map (present_cost network.requests) network.lsdb.links) c.live) is.configs
-    ∙ ap (λ (a : Asked). difference_lines (routers_of c.input.files) network.lsdb (map (present_cost a) network.lsdb.links) c.live) is.requests
+    ap (λ (ls : List Lsa). difference_lines network.configs.items network.lsdb (map (present_cost network.request_file) network.lsdb.links) ls) same
+    ∙ ap (λ (rs : List Router). difference_lines rs network.lsdb (map (present_cost network.request_file) network.lsdb.links) c.live) is.configs
+    ∙ ap (λ (a : Asked). difference_lines (routers_of c.input.files) network.lsdb (map (present_cost a) network.lsdb.links) c.live) is.request_file
     ∙ ap (λ (d : Database). difference_lines (routers_of c.input.files) d (map (present_cost c.input.asked) d.links) c.live) is.lsdb
 
 -- what a report of these lines says
@@ -47,7 +47,7 @@ may c d lines report base is reports =
 -- the report of what was read
 pub compared : (names : InputFiles) (network : Network) (c : Comparison) (live : List Lsa) (report : Report) →
     IsNetworkOf AtPresent names network c.input → live ≡ c.live →
-    ReportsLines network.lsdb (difference_lines network.configs.items network.lsdb (map (present_cost network.requests) network.lsdb.links) live) report →
+    ReportsLines network.lsdb (difference_lines network.configs.items network.lsdb (map (present_cost network.request_file) network.lsdb.links) live) report →
     MayCompare c report.status (bytes_in report.text)
 compared names network c live report is same reports =
     may c network.lsdb _ report is.lsdb (lines_are names network c live is same) reports

@@ -17,27 +17,26 @@ use Rattle.input_files.specs.declared.stop.Stop.{Stop}
 use Rattle.input_files.specs.declared.stop.Stop.TheVariants as stops
 use Rattle.input_files.specs.Inputs.{InputFiles}
 use Rattle.input_files.specs.Networks.{IsNetworkOf}
-use Rattle.input_files.specs.Readings.{Reading, Says, EndsAs, Gave}
-use Rattle.input_files.specs.Outcomes.{Input, file_of, routers_of}
-use Rattle.input_files.specs.Stops.{IsReadAs, IsReadAndMade, StopsAs, IsRefusal}
+use Rattle.input_files.specs.Readings.{Reading, unless_refused, Gave}
+use Rattle.input_files.specs.Outcomes.{Input, routers_of}
+use Rattle.input_files.specs.Stops.{IsReadAs, IsReadAndMade, StopsAs}
 use Rattle.input_files.proofs.Stops.{gave_wanting}
-use Rattle.input_files.proofs.Readings.{said_faulty}
+use Rattle.input_files.proofs.Readings.{said_unless, says_unless}
 use Rattle.input_files.proofs.PresentNetworks.{above_at_present, graph_at_present}
 use Rattle.report_writer.specs.declared.report.Report.{Report}
 use Rattle.report_writer.specs.Reports.{Reports, bytes_in}
 use Rattle.lsa_bytes.specs.declared.ids.IdFault.{IdFault}
 use Rattle.lsa_bytes.specs.Ids.{first_id_fault}
-use Rattle.lsa_bytes.specs.Numbers.{lsa_fault_number}
 use Rattle.lsa_bytes.specs.Written.{bytes_of_all}
 use Rattle.lsa_writer.specs.WrittenLsas.{written_lsas}
 use Rattle.lsa_writer.specs.OneGraph.{IsDatabaseOf, SayGraph}
 use Rattle.database_commands.specs.Identified.{IsIdentified}
 use Rattle.present_costs.specs.PresentCosts.{present_of_links}
-use Rattle.database_commands.specs.Lsas.{AreWritten, MayLsas, if_identified}
-use Rattle.database_commands.proofs.Routes.{refusal_stops}
+use Rattle.database_commands.specs.Lsas.{AreWritten, MayLsas, id_refused}
 
 -- each present cost is above 0
-pub costs_above : (names : InputFiles) (network : Network) (d : Input) → IsNetworkOf AtPresent names network d → All (λ cost. 0 < cost) (present_of_links d.asked d.database)
+pub costs_above : (names : InputFiles) (network : Network) (d : Input) → IsNetworkOf AtPresent names network d →
+    All (λ cost. 0 < cost) (present_of_links d.asked d.database)
 costs_above names network d is = above_at_present names d is.asked is.base is.resolved
 
 -- the graph that an audit goes by
@@ -64,11 +63,11 @@ few_configs names network d is =
 
 -- what was written of a network
 pub are_written : (names : InputFiles) (network : Network) (d : Input) (costs bytes : List ℕ) →
-    IsNetworkOf AtPresent names network d → costs ≡ map (present_cost network.requests) network.lsdb.links →
+    IsNetworkOf AtPresent names network d → costs ≡ map (present_cost network.request_file) network.lsdb.links →
     bytes ≡ bytes_of_all (written_lsas network.configs.items network.lsdb costs) → SayGraph bytes (graph_at network.lsdb (map Fixed costs)) → AreWritten d bytes
 are_written names network d costs bytes is costs_are written graph =
     let present : costs ≡ present_of_links d.asked d.database = costs_are
-    ∙ ap (λ (a : Asked). map (present_cost a) network.lsdb.links) is.requests
+    ∙ ap (λ (a : Asked). map (present_cost a) network.lsdb.links) is.request_file
     ∙ ap (λ (x : Database). map (present_cost d.asked) x.links) is.lsdb in
     record {
       written = written ∙ ap (λ (rs : List Router). bytes_of_all (written_lsas rs network.lsdb costs)) is.configs
@@ -80,7 +79,7 @@ are_written names network d costs bytes is costs_are written graph =
 
 -- what was written, where there was memory
 pub wrote : {A E : Type 0} → (network : Network) (configs : List Router) (costs : List ℕ) (result : Result (Vec ℕ A) E) →
-    configs ≡ network.configs.items → costs ≡ map (present_cost network.requests) network.lsdb.links →
+    configs ≡ network.configs.items → costs ≡ map (present_cost network.request_file) network.lsdb.links →
     IfOk result (λ bytes. bytes.items ≡ bytes_of_all (written_lsas configs network.lsdb costs)) →
     IfOk result (λ bytes. SayGraph bytes.items (graph_at network.lsdb (map Fixed costs))) →
     IfOk result (λ bytes. (names : InputFiles) → (d : Input) → IsNetworkOf AtPresent names network d → AreWritten d bytes.items)
@@ -89,42 +88,33 @@ wrote network configs costs (Ok bytes) same are written graph = λ names d is.
     (written ∙ ap (λ (rs : List Router). bytes_of_all (written_lsas rs network.lsdb costs)) same) graph
 wrote network configs costs (Err e) same are written graph = tt
 
--- router IDs that were tested
-pub ids_stop : (names : InputFiles) (d : Input) (found : IdFault) (stop : Stop) →
-    IsRefusal (record { number = lsa_fault_number found.fault; file = file_of names found.config; line = 0 }) stop →
-    StopsAs (if_identified names d (Some found)) [] stop
-ids_stop names d found stop is = refusal_stops Input (record { number = lsa_fault_number found.fault; file = file_of names found.config; line = 0 }) stop is
-
 -- whose IDs were tested
 pub ids_refused : (names : InputFiles) (d : Input) (configs : List Router) (stop : Stop) →
-    routers_of d.files ≡ configs → StopsAs (if_identified names d (first_id_fault [] 0 configs)) [] stop →
-    StopsAs (if_identified names d (first_id_fault [] 0 (routers_of d.files))) [] stop
-ids_refused names d configs stop same is = subst (λ (rs : List Router). StopsAs (if_identified names d (first_id_fault [] 0 rs)) [] stop) (sym same) is
+    routers_of d.files ≡ configs → StopsAs (unless_refused (id_refused names) d (first_id_fault [] 0 configs)) [] stop →
+    StopsAs (unless_refused (id_refused names) d (first_id_fault [] 0 (routers_of d.files))) [] stop
+ids_refused names d configs stop same is = subst (λ (rs : List Router). StopsAs (unless_refused (id_refused names) d (first_id_fault [] 0 rs)) [] stop)
+    (sym same) is
 
 pub ids_ready : (names : InputFiles) (d : Input) (fault : Option IdFault) → fault ≡ None →
-    IsReadAndMade (if_identified names d fault) [] (λ (u : Unit {0}) said. said ≡ d) tt
-ids_ready names d fault none = record { said = d; ends = subst (λ f. EndsAs (if_identified names d f) [] (Says d)) (sym none) refl; fits = refl }
+    IsReadAndMade (unless_refused (id_refused names) d fault) [] (λ (u : Unit {0}) said. said ≡ d) tt
+ids_ready names d fault none = record { said = d; ends = says_unless (id_refused names) d fault none; fits = refl }
 
 -- the IDs were tested without a fault
 ids_fine : (names : InputFiles) (d : Input) (configs : List Router) (u : Unit {0}) →
-    IsReadAndMade (if_identified names d (first_id_fault [] 0 configs)) [] (λ (v : Unit {0}) said. said ≡ d) u →
+    IsReadAndMade (unless_refused (id_refused names) d (first_id_fault [] 0 configs)) [] (λ (v : Unit {0}) said. said ≡ d) u →
     first_id_fault [] 0 configs ≡ None
-ids_fine names d configs u ready = by_fault (first_id_fault [] 0 configs) ready.ends
-  where
-    by_fault : (f : Option IdFault) → EndsAs (if_identified names d f) [] (Says ready.said) → f ≡ None
-    by_fault None ends = refl
-    by_fault (Some found) ends = absurd (said_faulty ready.said _ ends)
+ids_fine names d configs u ready = (said_unless (id_refused names) d ready.said (first_id_fault [] 0 configs) [] ready.ends).0
 
 -- the network that was read, after its IDs were tested
 pub identified : (names : InputFiles) (d : Input) (configs : List Router) (network : Network) (u : Unit {0}) → routers_of d.files ≡ configs →
     IsNetworkOf AtPresent names network d →
-    IsReadAndMade (if_identified names d (first_id_fault [] 0 configs)) [] (λ (v : Unit {0}) said. said ≡ d) u →
-    IsReadAndMade (if_identified names d (first_id_fault [] 0 (routers_of d.files))) [] (IsIdentified names) network
+    IsReadAndMade (unless_refused (id_refused names) d (first_id_fault [] 0 configs)) [] (λ (v : Unit {0}) said. said ≡ d) u →
+    IsReadAndMade (unless_refused (id_refused names) d (first_id_fault [] 0 (routers_of d.files))) [] (IsIdentified names) network
 identified names d configs network u same is ready =
     let none : first_id_fault [] 0 (routers_of d.files) ≡ None = ap (first_id_fault [] 0) same ∙ ids_fine names d configs u ready in
     record {
       said = d;
-      ends = subst (λ f. EndsAs (if_identified names d f) [] (Says d)) (sym none) refl;
+      ends = says_unless (id_refused names) d (first_id_fault [] 0 (routers_of d.files)) none;
       fits = record { network_is = is; identified = none };
     }
 

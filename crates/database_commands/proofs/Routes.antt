@@ -15,9 +15,9 @@ use Rattle.area_graph.specs.Area.{Area, edge_at}
 use Rattle.area_graph.specs.Costs.{IsPriced, FitsPoint, at_costs}
 use Rattle.spf_ties.specs.Distances.{tight_out}
 use Rattle.input_files.specs.declared.stop.Stop.{Stop}
-use Rattle.input_files.specs.declared.stop.Stop.TheVariants as stops
-use Rattle.input_files.specs.Readings.{Reading, InputRefusal, Refused, Ready, Faulty, Says, EndsAs}
+use Rattle.input_files.specs.Readings.{Reading, Refused, Ready, Says, EndsAs}
 use Rattle.input_files.specs.Stops.{StopsAs, IsReadAndMade, IsRefusal}
+use Rattle.input_files.proofs.Stops.{refusal_stops}
 use Rattle.report_writer.specs.declared.report.Report.{Report}
 use Rattle.report_writer.specs.Reports.{Reports, bytes_in}
 use Rattle.lsa_bytes.specs.declared.LsaLink.{LsaLink}
@@ -30,12 +30,6 @@ use Rattle.lsa_bytes.specs.Databases.{is_router_lsa, is_router_of}
 use Rattle.lsa_bytes.specs.Numbers.{lsa_fault_number}
 use Rattle.database_commands.specs.Routes.{unless_unknown, vertex_of_router, id_at, vertex_ids, route_end, hop_ids, IsRoute, MayRoute}
 use Rattle.database_commands.specs.Found.{EndsBy, IsFoundEnd}
-
--- what is refused stops so
-pub refusal_stops : (A : Type 0) (r : InputRefusal) (stop : Stop) → IsRefusal r stop → StopsAs {A = A} (Refused r) [] stop
-refusal_stops A r (stops.Refused number file line) is = ap Faulty (sym is)
-refusal_stops A r (stops.ReadFault file) is = absurd is
-refusal_stops A r stops.OutOfMemory is = absurd is
 
 -- a router without a router-LSA stops the rest
 pub unknown_stops : (file : List ℕ) (id place : ℕ) (lsas : List Lsa) (next : Reading (List Lsa)) (stop : Stop) →
@@ -145,14 +139,14 @@ found_between lsas g ids from to start end bytes graph names starts ends apart i
       written = moved.written
           ∙ ap (λ (hops : List ℕ). route_end (slice_index_or moved.room.costs (vertex_of_router lsas from) None) hops)
           (sym (map-map (id_at lsas) (λ e. (edge_at (lsa_graph lsas) e).to) (tight_out (lsa_graph lsas) (at_costs []) moved.room (vertex_of_router lsas from))))
-          ∙ sym (ap (λ b. cond b (codes " cost 0 first none")
+          ∙ sym (ap (λ b. cond b (codes "cost 0 first none")
           (route_end (slice_index_or moved.room.costs (vertex_of_router lsas from) None)
           (hop_ids lsas moved.room.costs (vertex_of_router lsas from)))) apart);
     }
 
 -- from a router to itself
 pub found_own : (lsas : List Lsa) (g : Area) (ids : List ℕ) (from to start end : ℕ) (bytes own : List ℕ) →
-    g ≡ lsa_graph lsas → end ≡ vertex_of_router lsas to → (from == to) ≡ true → own ≡ codes " cost 0 first none"
+    g ≡ lsa_graph lsas → end ≡ vertex_of_router lsas to → (from == to) ≡ true → own ≡ codes "cost 0 first none"
     → EndsBy g ids start end bytes → IsFoundEnd lsas from to own
 found_own lsas g ids from to start end bytes own graph ends same own_is is =
     let moved = subst (λ (h : Area). EndsBy h ids start (vertex_of_router lsas to) bytes) graph (subst (λ t. EndsBy g ids start t bytes) ends is) in
@@ -160,7 +154,7 @@ found_own lsas g ids from to start end bytes own graph ends same own_is is =
       distances = moved.room.costs;
       least = moved.least;
       written = own_is
-          ∙ sym (ap (λ b. cond b (codes " cost 0 first none")
+          ∙ sym (ap (λ b. cond b (codes "cost 0 first none")
           (route_end (slice_index_or moved.room.costs (vertex_of_router lsas from) None)
           (hop_ids lsas moved.room.costs (vertex_of_router lsas from)))) same);
     }

@@ -4,12 +4,12 @@ use Rattle.std.specs.List.{list_all}
 use Rattle.cost_base.specs.Decimal.{decimal}
 use Rattle.cost_base.specs.declared.Status.{Status}
 use Rattle.cost_base.specs.declared.Status.TheVariants as status
+use Rattle.line_builder.specs.Words.{dotted_quad, line_of_words}
 use Rattle.lsdb_build.specs.Graphs.{Database}
 use Rattle.lsdb_build.specs.LinkNames.{link_interface, link_router}
 use Rattle.input_files.specs.Inputs.{InputFiles}
 use Rattle.input_files.specs.Readings.{Reading, Ready, ◌>>=◌}
 use Rattle.input_files.specs.Outcomes.{Input, routers_of}
-use Rattle.report_writer.specs.Texts.{line_of_words}
 use Rattle.lsa_bytes.specs.declared.Lsa.{Lsa}
 use Rattle.live_area.specs.declared.Difference.{Difference}
 use Rattle.live_area.specs.declared.Difference.TheVariants.{Absent, Cost, Missing, Stranger, Unknown, Same}
@@ -17,7 +17,6 @@ use Rattle.live_area.specs.Differences.{difference_lines}
 use Rattle.live_input.specs.LiveReadings.{live_read}
 use Rattle.present_costs.specs.PresentCosts.{present_of_links}
 use Rattle.database_commands.specs.Lsas.{identified_read}
-use Rattle.database_commands.specs.Quads.{router_id_text}
 
 -- what is compared: what well-formed input says, and the LSAs of its area that count by a live file
 pub record Comparison : Type 0 where
@@ -48,8 +47,8 @@ abbrev pub difference_words : Database → Difference → List (List ℕ)
 difference_words d (Absent router) = codes "absent" ∷ router_named d router ∷ []
 difference_words d (Cost link file live) = linked_words (codes "cost") d link (codes "file" ∷ decimal file ∷ codes "live" ∷ decimal live ∷ [])
 difference_words d (Missing link) = linked_words (codes "missing") d link []
-difference_words d (Stranger router) = codes "stranger" ∷ router_id_text router ∷ []
-difference_words d (Unknown router address live) = codes "unknown" ∷ router_id_text router ∷ router_id_text address ∷ codes "live" ∷ decimal live ∷ []
+difference_words d (Stranger router) = codes "stranger" ∷ dotted_quad router ∷ []
+difference_words d (Unknown router address live) = codes "unknown" ∷ dotted_quad router ∷ dotted_quad address ∷ codes "live" ∷ decimal live ∷ []
 difference_words d (Same same linked) = codes "same" ∷ decimal same ∷ codes "of" ∷ decimal linked ∷ []
 
 -- the text of a comparison, line by line

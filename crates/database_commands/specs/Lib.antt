@@ -1,6 +1,5 @@
 pub mod Lsas
 pub mod Identified
-pub mod Quads
 pub mod Routes
 pub mod Found
 pub mod Compares

@@ -4,6 +4,7 @@ use Rattle.std.specs.List.{list_any}
 use Rattle.cost_base.specs.declared.Status.{Status}
 use Rattle.cost_base.specs.declared.Status.TheVariants.{Done}
 use Rattle.cost_base.specs.Decimal.{decimal}
+use Rattle.line_builder.specs.Words.{dotted_quad, line_of_words}
 use Rattle.area_graph.specs.Area.{Area, edge_at}
 use Rattle.area_graph.specs.Costs.{at_costs}
 use Rattle.spf_ties.specs.Distances.{IsLeastCost, tight_out}
@@ -14,7 +15,6 @@ use Rattle.lsa_bytes.specs.AreaGraphs.{lsa_graph, routers_among, networks_among,
 use Rattle.lsa_bytes.specs.Databases.{is_router_of}
 use Rattle.lsa_bytes.specs.Numbers.{lsa_fault_number}
 use Rattle.live_input.specs.LsaFiles.{lsas_read}
-use Rattle.database_commands.specs.Quads.{router_id_text}
 
 -- a router ID without a router-LSA is refused: 0 stands for the one to start from, 1 for the one to go to
 abbrev pub unless_unknown : List ℕ → ℕ → ℕ → List Lsa → Reading (List Lsa) → Reading (List Lsa)
@@ -57,27 +57,27 @@ hops_out g distances v = map (λ e. (edge_at g e).to) (tight_out g (at_costs [])
 
 -- each ID behind a space
 abbrev pub spaced_quads : List ℕ → List ℕ
-spaced_quads ids = flat_map (λ id. 32 ∷ router_id_text id) ids
+spaced_quads ids = flat_map (λ id. 32 ∷ dotted_quad id) ids
 
--- ` cost C first X ..`, or ` unreachable`
+-- `cost C first X ..`, or `unreachable`
 abbrev pub route_end : Option ℕ → List ℕ → List ℕ
-route_end None hops = codes " unreachable"
-route_end (Some cost) hops = codes " cost " ++ (decimal cost ++ (codes " first" ++ spaced_quads hops))
+route_end None hops = codes "unreachable"
+route_end (Some cost) hops = codes "cost " ++ (decimal cost ++ (codes " first" ++ spaced_quads hops))
 
 -- the IDs at the ends of the tight edges out of a vertex
 abbrev pub hop_ids : List Lsa → List (Option ℕ) → ℕ → List ℕ
 hop_ids lsas distances v = map (id_at lsas) (hops_out (lsa_graph lsas) distances v)
 
--- ` cost 0 first none` from a router to itself
+-- `cost 0 first none` from a router to itself
 abbrev pub found_end : List Lsa → ℕ → ℕ → List (Option ℕ) → List ℕ
 found_end lsas from to distances =
-    if from == to then codes " cost 0 first none"
+    if from == to then codes "cost 0 first none"
     else route_end (slice_index_or distances (vertex_of_router lsas from) None) (hop_ids lsas distances (vertex_of_router lsas from))
 
 -- `from A to B ..`, and an LF
 abbrev pub route_line : List Lsa → ℕ → ℕ → List (Option ℕ) → List ℕ
 route_line lsas from to distances =
-    codes "from " ++ (router_id_text from ++ (codes " to " ++ (router_id_text to ++ (found_end lsas from to distances ++ 10 ∷ []))))
+    line_of_words (codes "from" ∷ dotted_quad from ∷ codes "to" ∷ dotted_quad to ∷ found_end lsas from to distances ∷ [])
 
 -- the line tells the least cost from a router to another, and where the first edges lead of the paths that cost no more
 pub record IsRoute (from to : ℕ) (lsas : List Lsa) (bytes : List ℕ) : Type 0 where

@@ -20,7 +20,7 @@ use cost_base::{OutOfMemory, Shelf, Status};
 use input_files::{FileWords, Network, Stop};
 use live_area::{Difference, compare};
 use live_input::read_live_file;
-use lsa_bytes::Database;
+use lsa_bytes::LsaDatabase;
 use present_costs::costs_of_links;
 use report_writer::Report;
 use std::alloc::Global;
@@ -61,20 +61,21 @@ fn status_of(lines: &[Difference]) -> Status
     }
 }
 
-/// The area that a network's request file names.
+/// The area that a network's request file names. For the prover: a call, so that the caller's goals have
+/// this part alone.
 fn area_of(network: &Network) -> u32
-    ensures { result ≡ network.now.requests.area }
+    ensures { result ≡ network.now.request_file.area }
 {
-    network.requests.area
+    network.request_file.area
 }
 
 /// The report of a network beside the LSAs of its area that count.
-fn comparison(alloc: Global, network: &Network, live: &Database) -> Result<Report, OutOfMemory>
+fn comparison(alloc: Global, network: &Network, live: &LsaDatabase) -> Result<Report, OutOfMemory>
     ensures { IfOk result
         (ReportsLines network.now.lsdb (difference_lines network.now.configs.items network.now.lsdb
-        (map (present_cost network.now.requests) network.now.lsdb.links) live.now)) }
+        (map (present_cost network.now.request_file) network.now.lsdb.links) live.now)) }
 {
-    let costs = costs_of_links(alloc, &network.requests, &network.lsdb)?;
+    let costs = costs_of_links(alloc, &network.request_file, &network.lsdb)?;
     let lines = compare(alloc, &network.configs, &network.lsdb, &costs, live)?;
     let text = text_of_lines(alloc, &network.lsdb, &lines)?;
     Ok(Report::made(status_of(&lines), text))

@@ -1,16 +1,15 @@
 //! The lines of a comparison.
 ghost use Rattle.std.specs.Prelude.{◌≡◌, [], ◌∷◌, IfOk, codes};
 ghost use Rattle.cost_base.specs.Decimal.{decimal};
-ghost use Rattle.report_writer.specs.Texts.{line_of_words};
+ghost use Rattle.line_builder.specs.Words.{dotted_quad, line_of_words};
 ghost use Rattle.database_commands.specs.Compares.{difference_text, difference_words};
-ghost use Rattle.database_commands.specs.Quads.{router_id_text};
 
-use crate::quads::push_quad;
 use cost_base::OutOfMemory;
+use line_builder::LineBuilder;
 use live_area::Difference;
 use lsdb_build::Lsdb;
 use std::alloc::Global;
-use text_lines::{push_bytes, push_number};
+use text_lines::push_bytes;
 
 /// The line of a router without a router-LSA.
 fn absent_line(alloc: Global, lsdb: &Lsdb, router: u32) -> Result<Vec<u8>, OutOfMemory>
@@ -18,11 +17,9 @@ fn absent_line(alloc: Global, lsdb: &Lsdb, router: u32) -> Result<Vec<u8>, OutOf
         (λ line. line.items ≡
         line_of_words (difference_words lsdb.now (Difference.Absent router))) }
 {
-    let mut line = Vec::new(alloc);
-    push_bytes(&mut line, b"absent ")?;
-    push_bytes(&mut line, lsdb.router_name(router))?;
-    push_bytes(&mut line, b"\n")?;
-    Ok(line)
+    let mut line = LineBuilder::new(alloc, b"absent")?;
+    line.word(lsdb.router_name(router))?;
+    line.ended()
 }
 
 /// The line of an interface whose link has another metric than its present cost.
@@ -37,17 +34,14 @@ fn cost_line(
         (λ line. line.items ≡
         line_of_words (difference_words lsdb.now (Difference.Cost link file live))) }
 {
-    let mut line = Vec::new(alloc);
-    push_bytes(&mut line, b"cost ")?;
-    push_bytes(&mut line, lsdb.link_router(link))?;
-    push_bytes(&mut line, b" ")?;
-    push_bytes(&mut line, lsdb.link_interface(link))?;
-    push_bytes(&mut line, b" file ")?;
-    push_number(&mut line, u128::from(file))?;
-    push_bytes(&mut line, b" live ")?;
-    push_number(&mut line, u128::from(live))?;
-    push_bytes(&mut line, b"\n")?;
-    Ok(line)
+    let mut line = LineBuilder::new(alloc, b"cost")?;
+    line.word(lsdb.link_router(link))?;
+    line.word(lsdb.link_interface(link))?;
+    line.word(b"file")?;
+    line.number(u128::from(file))?;
+    line.word(b"live")?;
+    line.number(u128::from(live))?;
+    line.ended()
 }
 
 /// The line of an interface without a link.
@@ -55,42 +49,34 @@ fn missing_line(alloc: Global, lsdb: &Lsdb, link: u32) -> Result<Vec<u8>, OutOfM
     ensures { IfOk result
         (λ line. line.items ≡ line_of_words (difference_words lsdb.now (Difference.Missing link))) }
 {
-    let mut line = Vec::new(alloc);
-    push_bytes(&mut line, b"missing ")?;
-    push_bytes(&mut line, lsdb.link_router(link))?;
-    push_bytes(&mut line, b" ")?;
-    push_bytes(&mut line, lsdb.link_interface(link))?;
-    push_bytes(&mut line, b"\n")?;
-    Ok(line)
+    let mut line = LineBuilder::new(alloc, b"missing")?;
+    line.word(lsdb.link_router(link))?;
+    line.word(lsdb.link_interface(link))?;
+    line.ended()
 }
 
 /// The line of a router-LSA whose router ID no configuration has.
 fn stranger_line(alloc: Global, router: u32) -> Result<Vec<u8>, OutOfMemory>
     ensures { IfOk result
-        (λ line. line.items ≡ line_of_words (codes "stranger" ∷ router_id_text router ∷ [])) }
+        (λ line. line.items ≡ line_of_words (codes "stranger" ∷ dotted_quad router ∷ [])) }
 {
-    let mut line = Vec::new(alloc);
-    push_bytes(&mut line, b"stranger ")?;
-    push_quad(&mut line, router)?;
-    push_bytes(&mut line, b"\n")?;
-    Ok(line)
+    let mut line = LineBuilder::new(alloc, b"stranger")?;
+    line.quad(router)?;
+    line.ended()
 }
 
 /// The line of a link that is that of no linked interface.
 fn unknown_line(alloc: Global, router: u32, address: u32, live: u16) -> Result<Vec<u8>, OutOfMemory>
     ensures { IfOk result
-        (λ line. line.items ≡ line_of_words (codes "unknown" ∷ router_id_text router ∷
-        router_id_text address ∷ codes "live" ∷ decimal live ∷ [])) }
+        (λ line. line.items ≡ line_of_words (codes "unknown" ∷ dotted_quad router ∷
+        dotted_quad address ∷ codes "live" ∷ decimal live ∷ [])) }
 {
-    let mut line = Vec::new(alloc);
-    push_bytes(&mut line, b"unknown ")?;
-    push_quad(&mut line, router)?;
-    push_bytes(&mut line, b" ")?;
-    push_quad(&mut line, address)?;
-    push_bytes(&mut line, b" live ")?;
-    push_number(&mut line, u128::from(live))?;
-    push_bytes(&mut line, b"\n")?;
-    Ok(line)
+    let mut line = LineBuilder::new(alloc, b"unknown")?;
+    line.quad(router)?;
+    line.quad(address)?;
+    line.word(b"live")?;
+    line.number(u128::from(live))?;
+    line.ended()
 }
 
 /// The line that counts the interfaces.
@@ -99,13 +85,11 @@ fn same_line(alloc: Global, same: u32, linked: u32) -> Result<Vec<u8>, OutOfMemo
         (λ line. line.items ≡ line_of_words (codes "same" ∷ decimal same ∷ codes "of" ∷
         decimal linked ∷ [])) }
 {
-    let mut line = Vec::new(alloc);
-    push_bytes(&mut line, b"same ")?;
-    push_number(&mut line, u128::from(same))?;
-    push_bytes(&mut line, b" of ")?;
-    push_number(&mut line, u128::from(linked))?;
-    push_bytes(&mut line, b"\n")?;
-    Ok(line)
+    let mut line = LineBuilder::new(alloc, b"same")?;
+    line.number(u128::from(same))?;
+    line.word(b"of")?;
+    line.number(u128::from(linked))?;
+    line.ended()
 }
 
 /// A line of a comparison, with its LF.

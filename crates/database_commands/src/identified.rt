@@ -1,40 +1,31 @@
 //! The network of files whose configurations have router IDs of their own.
 ghost use Rattle.std.specs.Prelude.{◌≡◌, ◌<◌, ◌^◌, [], length};
 ghost use Rattle.lsa_bytes.specs.Ids.{first_id_fault};
-ghost use Rattle.lsa_bytes.specs.Numbers.{lsa_fault_number};
-ghost use Rattle.input_files.specs.Outcomes.{Input, file_of, routers_of};
-ghost use Rattle.input_files.specs.Readings.{Gave};
+ghost use Rattle.input_files.specs.Outcomes.{Input, routers_of};
+ghost use Rattle.input_files.specs.Readings.{Gave, unless_refused};
 ghost use Rattle.input_files.specs.Stops.{IsReadAs, IsRefusal, files_named};
 ghost use Rattle.database_commands.specs.Identified.{IsIdentified};
-ghost use Rattle.database_commands.specs.Lsas.{identified_read, if_identified};
+ghost use Rattle.database_commands.specs.Lsas.{id_refused, identified_read};
 
-use cost_base::{Fault, Shelf};
-use input_files::{FileWords, Network, Stop, View, file_of, read_network};
+use cost_base::{Refusal, Shelf};
+use input_files::{FileWords, Network, Stop, View, file_of, read_network, stop_of};
 use interface_model::RouterConfig;
 use lsa_bytes::{IdFault, check_ids};
 use std::alloc::Global;
 
 /// The stop of a configuration that has no router ID, or that of an earlier one.
 fn stop_of_id(found: IdFault, words: FileWords<'_>) -> Stop<'_>
-    ensures { IsRefusal (record {
-      number = lsa_fault_number found.fault;
-      file = file_of (files_named words.entry) found.config;
-      line = 0;
-    }) result }
+    ensures { IsRefusal (id_refused (files_named words.entry) found) result }
 {
-    Stop::Refused {
-        number: found.fault.number(),
-        file: file_of(words, found.config),
-        line: 0,
-    }
+    stop_of(Refusal::at(0, found.fault), file_of(words, found.config))
 }
 
 /// Tests that each configuration has a router ID of its own.
 fn check_router_ids<'a>(configs: &[RouterConfig], words: FileWords<'a>) -> Result<(), Stop<'a>>
     requires { length configs.now < 2 ^ 32 }
     ensures { (d : Input) → routers_of d.files ≡ configs.now →
-        IsReadAs (if_identified (files_named words.entry) d (first_id_fault [] 0 configs.now)) []
-        (λ _ said. said ≡ d) result }
+        IsReadAs (unless_refused (id_refused (files_named words.entry)) d
+        (first_id_fault [] 0 configs.now)) [] (λ _ said. said ≡ d) result }
 {
     match check_ids(configs) {
         None => Ok(()),

@@ -3,13 +3,12 @@
 #![tactic(auto)]
 
 mod compare;
-mod database;
 mod differences;
 mod hops;
 mod identified;
 mod lsas;
-mod quads;
 mod route;
+mod routers;
 mod vertices;
 
 pub use compare::compare_report;

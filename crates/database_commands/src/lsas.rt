@@ -24,7 +24,7 @@ fn lsas_bytes(alloc: Global, network: &Network) -> Result<Vec<u8>, OutOfMemory>
     ensures { IfOk result (λ bytes. (names : InputFiles) → (d : Input) →
         IsNetworkOf AtPresent names network.now d → AreWritten d bytes.items) }
 {
-    let costs = costs_of_links(alloc, &network.requests, &network.lsdb)?;
+    let costs = costs_of_links(alloc, &network.request_file, &network.lsdb)?;
     lsas_of(alloc, &network.configs, &network.lsdb, &costs)
 }
 

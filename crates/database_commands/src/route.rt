@@ -1,5 +1,5 @@
 //! `route`: the least cost between two routers of a file of LSAs, and the first hops.
-ghost use Rattle.std.specs.Prelude.{◌≡◌, ◌==◌, ◌<◌, ◌++◌, [], true, IfOk, OnOk, codes, length};
+ghost use Rattle.std.specs.Prelude.{◌≡◌, ◌==◌, ◌<◌, [], true, IfOk, codes, length};
 ghost use Rattle.std.specs.List.{list_any};
 ghost use Rattle.area_graph.specs.Costs.{FitsPoint, at_costs};
 ghost use Rattle.spf_ties.specs.Distances.{IsRoomFor};
@@ -11,46 +11,36 @@ ghost use Rattle.database_commands.specs.Found.{EndsBy, IsFoundEnd, end_by};
 ghost use Rattle.database_commands.specs.Routes.{IsRoute, MayRoute, route_read, vertex_ids, vertex_of_router};
 ghost use Rattle.report_writer.specs.Reports.{bytes_in};
 
-use crate::database::check_router;
 use crate::hops::RoutedGraph;
-use crate::quads::push_quad;
+use crate::routers::check_router;
 use crate::vertices::{vertex_ids, vertex_of};
-use area_graph::{Graph, Point};
-use cost_base::{Listed, OutOfMemory, Shelf, Status};
+use area_graph::{Graph, empty_point};
+use cost_base::{OutOfMemory, Shelf, Status};
 use input_files::Stop;
+use line_builder::LineBuilder;
 use live_input::read_database;
-use lsa_bytes::{Database, graph_of_lsas};
+use lsa_bytes::{LsaDatabase, graph_of_lsas};
 use report_writer::Report;
 use spf_ties::Room;
 use std::alloc::Global;
-use text_lines::{push_bytes, push_number};
 
-/// Costs of a graph whose edges have fixed prices alone.
-fn fixed_costs(alloc: Global) -> Point
-    ensures { result ≡ at_costs [] }
-{
-    Point {
-        scale: 1,
-        values: Listed::from_items(Vec::new(alloc)),
-    }
-}
-
-/// Adds what is found of a route that doesn't end where it starts: ` cost C first X ..`, or ` unreachable`.
-fn push_end(line: &mut Vec<u8>, routed: &RoutedGraph, start: u32) -> Result<(), OutOfMemory>
+/// What is found of a route that doesn't end where it starts: `cost C first X ..`, or `unreachable`.
+fn end_of_route(alloc: Global, routed: &RoutedGraph, start: u32) -> Result<LineBuilder, OutOfMemory>
     requires room { IsRoomFor routed.now.graph.now routed.now.room.now }
     requires fits { FitsPoint routed.now.graph.now routed.now.point.now }
     requires start { start < length routed.now.graph.now.vertices }
-    ensures { OnOk result (line.new.items ≡ line.old.items ++ end_by routed.now.graph.now
-        routed.now.point.now routed.now.room.now routed.now.ids.now start) }
+    ensures { IfOk result (λ words. words ≡ end_by routed.now.graph.now routed.now.point.now
+        routed.now.room.now routed.now.ids.now start) }
 {
     match routed.room.distance(start) {
         Some(cost) => {
-            push_bytes(line, b" cost ")?;
-            push_number(line, cost)?;
-            push_bytes(line, b" first")?;
-            routed.push_hops(line, start)
+            let mut words = LineBuilder::new(alloc, b"cost")?;
+            words.number(cost)?;
+            words.word(b"first")?;
+            routed.push_hops(&mut words, start)?;
+            Ok(words)
         }
-        None => push_bytes(line, b" unreachable"),
+        None => LineBuilder::new(alloc, b"unreachable"),
     }
 }
 
@@ -61,13 +51,13 @@ fn route_end(
     ids: &[u32],
     start: u32,
     end: u32,
-) -> Result<Vec<u8>, OutOfMemory>
+) -> Result<LineBuilder, OutOfMemory>
     requires fits { FitsPoint graph.now (at_costs []) }
     requires start { start < length graph.now.vertices }
     requires end { end < length graph.now.vertices }
-    ensures { IfOk result (λ words. EndsBy graph.now ids.now start end words.items) }
+    ensures { IfOk result (λ words. EndsBy graph.now ids.now start end words) }
 {
-    let point = fixed_costs(alloc);
+    let point = empty_point(alloc);
     let mut room = Room::new(alloc, graph)?;
     room.distances_to(graph, &point, end);
     let routed = RoutedGraph {
@@ -76,8 +66,7 @@ fn route_end(
         room: &room,
         ids,
     };
-    let mut words = Vec::new(alloc);
-    push_end(&mut words, &routed, start)?;
+    let words = end_of_route(alloc, &routed, start)?;
     Ok(words)
 }
 
@@ -89,25 +78,23 @@ fn is_same(from: u32, to: u32) -> bool
 }
 
 /// What is found of a route from a router to itself.
-fn own_end(alloc: Global) -> Result<Vec<u8>, OutOfMemory>
-    ensures { IfOk result (λ words. words.items ≡ codes " cost 0 first none") }
+fn own_end(alloc: Global) -> Result<LineBuilder, OutOfMemory>
+    ensures { IfOk result (λ words. words ≡ codes "cost 0 first none") }
 {
-    let mut words = Vec::new(alloc);
-    push_bytes(&mut words, b" cost 0 first none")?;
-    Ok(words)
+    LineBuilder::new(alloc, b"cost 0 first none")
 }
 
 /// What is found of a route between two routers of a database by their vertices.
 fn routed_end(
     alloc: Global,
-    database: &Database,
+    database: &LsaDatabase,
     from: u32,
     to: u32,
-) -> Result<Vec<u8>, OutOfMemory>
+) -> Result<LineBuilder, OutOfMemory>
     requires from { list_any (is_router_of from) database.now ≡ true }
     requires to { list_any (is_router_of to) database.now ≡ true }
     ensures { IfOk result (λ words. EndsBy (lsa_graph database.now) (vertex_ids database.now)
-        (vertex_of_router database.now from) (vertex_of_router database.now to) words.items) }
+        (vertex_of_router database.now from) (vertex_of_router database.now to) words) }
 {
     let lsas = database.as_slice();
     let graph = graph_of_lsas(alloc, database)?;
@@ -117,10 +104,15 @@ fn routed_end(
 }
 
 /// What is found of a route between two routers of a database.
-fn found_end(alloc: Global, database: &Database, from: u32, to: u32) -> Result<Vec<u8>, OutOfMemory>
+fn found_end(
+    alloc: Global,
+    database: &LsaDatabase,
+    from: u32,
+    to: u32,
+) -> Result<LineBuilder, OutOfMemory>
     requires from { list_any (is_router_of from) database.now ≡ true }
     requires to { list_any (is_router_of to) database.now ≡ true }
-    ensures { IfOk result (λ words. IsFoundEnd database.now from to words.items) }
+    ensures { IfOk result (λ words. IsFoundEnd database.now from to words) }
 {
     let words = routed_end(alloc, database, from, to)?;
     if is_same(from, to) {
@@ -133,7 +125,7 @@ fn found_end(alloc: Global, database: &Database, from: u32, to: u32) -> Result<V
 /// The line of a route between two routers of a database.
 fn route_line(
     alloc: Global,
-    database: &Database,
+    database: &LsaDatabase,
     from: u32,
     to: u32,
 ) -> Result<Vec<u8>, OutOfMemory>
@@ -142,14 +134,12 @@ fn route_line(
     ensures { IfOk result (λ line. IsRoute from to database.now line.items) }
 {
     let end = found_end(alloc, database, from, to)?;
-    let mut line = Vec::new(alloc);
-    push_bytes(&mut line, b"from ")?;
-    push_quad(&mut line, from)?;
-    push_bytes(&mut line, b" to ")?;
-    push_quad(&mut line, to)?;
-    push_bytes(&mut line, &end)?;
-    push_bytes(&mut line, b"\n")?;
-    Ok(line)
+    let mut line = LineBuilder::new(alloc, b"from")?;
+    line.quad(from)?;
+    line.word(b"to")?;
+    line.quad(to)?;
+    line.word(end.as_bytes())?;
+    line.ended()
 }
 
 /// The report of the route from a router to another, named by their router IDs, in a file of LSAs.

@@ -2,7 +2,7 @@
 ghost use Rattle.std.specs.Prelude.{◌≡◌, ◌<◌, ◌^◌, ◌++◌, IfOk, OnOk, length};
 ghost use Rattle.database_commands.specs.Routes.{network_ids, router_ids, vertex_ids, vertex_of_router};
 
-use cost_base::OutOfMemory;
+use cost_base::{OutOfMemory, push_if};
 use lsa_bytes::{Lsa, is_router};
 use std::alloc::Global;
 
@@ -28,9 +28,7 @@ fn push_router_ids(ids: &mut Vec<u32>, lsas: &[Lsa]) -> Result<(), OutOfMemory>
     ensures { OnOk result (ids.new.items ≡ ids.old.items ++ router_ids lsas.now) }
 {
     for lsa in lsas {
-        if is_router(lsa) {
-            ids.push(lsa.router)?;
-        }
+        push_if(ids, lsa.router, is_router(lsa))?;
     }
     Ok(())
 }
@@ -40,9 +38,7 @@ fn push_network_ids(ids: &mut Vec<u32>, lsas: &[Lsa]) -> Result<(), OutOfMemory>
     ensures { OnOk result (ids.new.items ≡ ids.old.items ++ network_ids lsas.now) }
 {
     for lsa in lsas {
-        if !is_router(lsa) {
-            ids.push(lsa.id)?;
-        }
+        push_if(ids, lsa.id, !is_router(lsa))?;
     }
     Ok(())
 }

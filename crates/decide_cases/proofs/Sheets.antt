@@ -1,5 +1,5 @@
--- A sheet of two rows: a halving's basis and refutations name them. With a row that nothing names, without a row that is
--- named, and with a row twice it is none; with one row, and the form of a total behind it, it is a sheet again.
+-- A sheet of two rows: a halving's basis and refutations name them. With a row that nothing names, without a row that
+-- is named, and with a row twice it is none; with one row, and the form of a total behind it, it is a sheet again.
 use Rattle.std.proofs.Common.{◌≡◌, ◌≢◌, ℕ, zero, suc, ◌<◌, refl, List, [], ◌∷◌, arith, true}
 use Rattle.std.specs.Prelude.{pos, All, AllPairs}
 use Rattle.std.proofs.lemmas.Bool.{false≢true}

@@ -6,10 +6,11 @@ use crate::deciding::{decide_text, least_text, told_text};
 use crate::draft::Draft;
 use crate::problem_text::{box_text, problem_text};
 use crate::stop::Stop;
+use case_scripts::Script;
 use cost_base::OutOfMemory;
 use design_problem::{Problem, box_at};
 use std::alloc::{AllocError, Global};
-use std::mem;
+use std::{io, mem};
 
 /// What a script has come to: what was said of a problem, and the problem at hand.
 #[derive(Drop)]
@@ -65,7 +66,7 @@ fn ranges(alloc: Global, problem: &Problem, cap: u16) -> Result<String, OutOfMem
 
 /// The restricted problem of these requests, where they are some in order.
 fn only(alloc: Global, problem: &Problem, members: &[u32]) -> Result<Option<Problem>, OutOfMemory> {
-    if !are_members(members, problem.paths.as_slice().len()) {
+    if !are_members(members, problem.requests.as_slice().len()) {
         return Ok(None);
     }
     Ok(Some(problem.only(alloc, members)?))
@@ -74,9 +75,11 @@ fn only(alloc: Global, problem: &Problem, members: &[u32]) -> Result<Option<Prob
 /// What is answered to a line that asks something of the problem at hand.
 fn called(alloc: Global, problem: &Problem, asked: &Command) -> Result<String, OutOfMemory> {
     match asked {
-        Command::Decide(cap, budget) => decide_text(alloc, problem, *cap, *budget),
-        Command::Told(cap, budget, count) => told_text(alloc, problem, *cap, *budget, *count),
-        Command::Least(budget) => least_text(alloc, problem, *budget),
+        Command::Decide(cap, case_limits) => decide_text(alloc, problem, *cap, *case_limits),
+        Command::Told(cap, case_limits, count) => {
+            told_text(alloc, problem, *cap, *case_limits, *count)
+        }
+        Command::Least(case_limits) => least_text(alloc, problem, *case_limits),
         Command::Show => problem_text(alloc, problem),
         Command::Ranges(cap) => ranges(alloc, problem, *cap),
         _ => Ok(String::from_str(alloc, "")?),
@@ -140,10 +143,8 @@ fn reply(alloc: Global, scene: &mut Scene, line: &str) -> Result<String, OutOfMe
     }
 }
 
-/// What is answered to a line, to stand behind the line.
-pub(crate) fn answer(alloc: Global, scene: &mut Scene, line: &str) -> Result<String, AllocError> {
-    match reply(alloc, scene, line) {
-        Ok(text) => Ok(text),
-        Err(OutOfMemory) => Err(AllocError),
+impl Script for Scene {
+    fn answer(&mut self, alloc: Global, line: &str) -> io::Result<String> {
+        Ok(reply(alloc, self, line).map_err(|_| AllocError)?)
     }
 }

@@ -21,12 +21,12 @@ pub enum Command {
     /// `problem`: what the lines since the last network say is the problem at hand, where it is one.
     Problem,
     /// `decide CAP NODES BITS`: one cap decided.
-    Decide(u16, Budget),
-    /// `told CAP NODES BITS CHOICES`: the same with an advisor that counts the entries that it is told, which is asked
-    /// afterwards for its pick of so many choices.
-    Told(u16, Budget, u32),
+    Decide(u16, CaseLimits),
+    /// `told CAP NODES BITS CANDIDATES`: the same with an advisor that counts the entries that it is told, which is
+    /// asked afterwards for its pick of so many candidates.
+    Told(u16, CaseLimits, u32),
     /// `least NODES BITS`: the text of the answer with the least cap.
-    Least(Budget),
+    Least(CaseLimits),
     /// `only MEMBER ..`: the restricted problem of these requests is the problem at hand.
     Only(Vec<u32>),
     /// `show`: the problem at hand, line by line.
@@ -39,7 +39,7 @@ pub enum Command {
 
 /// A budget and a width.
 #[derive(Clone, Copy)]
-pub struct Budget {
+pub struct CaseLimits {
     pub nodes: u32,
     pub bits: u32,
 }
@@ -127,10 +127,10 @@ fn directive(alloc: Global, words: &mut SplitWhitespace<'_>) -> Result<Command, 
 }
 
 /// A budget and a width.
-fn read_budget(words: &mut SplitWhitespace<'_>) -> Result<Budget, Stop> {
+fn read_limits(words: &mut SplitWhitespace<'_>) -> Result<CaseLimits, Stop> {
     let nodes = number(words)?;
     let bits = number(words)?;
-    Ok(Budget { nodes, bits })
+    Ok(CaseLimits { nodes, bits })
 }
 
 /// Another network.
@@ -143,14 +143,14 @@ fn network(words: &mut SplitWhitespace<'_>) -> Result<Command, Stop> {
 /// A cap to be decided.
 fn decided(words: &mut SplitWhitespace<'_>) -> Result<Command, Stop> {
     let cap = cost(words)?;
-    Ok(Command::Decide(cap, read_budget(words)?))
+    Ok(Command::Decide(cap, read_limits(words)?))
 }
 
 /// A cap to be decided with an advisor that counts.
 fn told(words: &mut SplitWhitespace<'_>) -> Result<Command, Stop> {
     let cap = cost(words)?;
-    let budget = read_budget(words)?;
-    Ok(Command::Told(cap, budget, number(words)?))
+    let case_limits = read_limits(words)?;
+    Ok(Command::Told(cap, case_limits, number(words)?))
 }
 
 /// What a line asks for, by its first word and those behind it.
@@ -160,7 +160,7 @@ fn line_of(alloc: Global, first: &str, words: &mut SplitWhitespace<'_>) -> Resul
         "show" => Ok(Command::Show),
         "decide" => decided(words),
         "told" => told(words),
-        "least" => Ok(Command::Least(read_budget(words)?)),
+        "least" => Ok(Command::Least(read_limits(words)?)),
         "only" => Ok(Command::Only(numbers(alloc, words, "")?)),
         "box" => Ok(Command::Ranges(cost(words)?)),
         "network" => network(words),

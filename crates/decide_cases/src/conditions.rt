@@ -129,12 +129,12 @@ fn are_priced(graph: &Graph, count: usize) -> bool
 }
 
 /// Whether there are at most 10,000 wanted paths, each one of its request.
-fn are_requests(graph: &Graph, paths: &[Request]) -> bool
-    ensures few { IsTrue result → length paths.now ≤ 10000 }
+fn are_requests(graph: &Graph, requests: &[Request]) -> bool
+    ensures few { IsTrue result → length requests.now ≤ 10000 }
     ensures each { IsTrue result → All (λ r. IsPathOf graph.now (request_ends r) r.path.edges ×
-        MayBeExcluded graph.now r.excluded) paths.now }
+        MayBeExcluded graph.now r.excluded) requests.now }
 {
-    paths.len() <= 10_000 && paths.iter().all(|request| is_request(graph, request))
+    requests.len() <= 10_000 && requests.iter().all(|request| is_request(graph, request))
 }
 
 /// Whether there are so many lower bounds as upper ones, at most 1,000, each from 1 to its upper bound.
@@ -161,14 +161,20 @@ fn are_free(vars: &[VarName], count: usize) -> bool
 }
 
 /// Whether these are the parts of a problem.
-fn are_parts(graph: &Graph, vars: &[VarName], low: &[u16], high: &[u16], paths: &[Request]) -> bool
+fn are_parts(
+    graph: &Graph,
+    vars: &[VarName],
+    low: &[u16],
+    high: &[u16],
+    requests: &[Request],
+) -> bool
     ensures { IsTrue result →
         IsProblem (record {
           graph = graph.now;
           vars = vars.now;
           low = low.now;
           high = high.now;
-          paths = paths.now;
+          requests = requests.now;
         }) }
 {
     if !are_bounds(low, high) {
@@ -180,7 +186,7 @@ fn are_parts(graph: &Graph, vars: &[VarName], low: &[u16], high: &[u16], paths: 
     if !are_priced(graph, low.len()) {
         return false;
     }
-    are_requests(graph, paths)
+    are_requests(graph, requests)
 }
 
 /// Whether these are the parts of a problem.
@@ -189,7 +195,7 @@ pub(crate) fn is_problem(
     vars: &Listed<VarName>,
     low: &Listed<u16>,
     high: &Listed<u16>,
-    paths: &Listed<Request>,
+    requests: &Listed<Request>,
 ) -> bool
     ensures { IsTrue result →
         IsProblem (record {
@@ -197,7 +203,7 @@ pub(crate) fn is_problem(
           vars = vars.now;
           low = low.now;
           high = high.now;
-          paths = paths.now;
+          requests = requests.now;
         }) }
 {
     are_parts(
@@ -205,7 +211,7 @@ pub(crate) fn is_problem(
         vars.as_slice(),
         low.as_slice(),
         high.as_slice(),
-        paths.as_slice(),
+        requests.as_slice(),
     )
 }
 

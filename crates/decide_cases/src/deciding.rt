@@ -3,13 +3,13 @@ ghost use Rattle.std.specs.Prelude.{◌<◌, ◌≤◌, length, All};
 ghost use Rattle.cost_branching.specs.Pools.{IsRowPool};
 
 use crate::advisors::Counting;
-use crate::command::Budget;
+use crate::command::CaseLimits;
 use crate::conditions::are_below;
-use case_scripts::Line;
+use case_scripts::{Entries, Spaced};
 use cost_base::{MemorySink, OutOfMemory};
 use cost_branching::{Found, Pool, decide};
 use cut_advisors::{Advisor, Candidate, choose};
-use design_problem::{Answer, Entry, Problem, Row};
+use design_problem::{Answer, Problem, Row};
 use evidence_text::put_answer;
 use least_bound::least;
 use std::alloc::{AllocError, Global};
@@ -20,9 +20,9 @@ use wide_fraction::{Limits, Top};
 const ROOM: usize = 4096;
 
 /// The budget and the width, where there are such.
-fn limits_of(budget: Budget) -> Option<Limits> {
-    let top = Top::new(budget.bits)?;
-    Limits::new(u64::from(budget.nodes), top)
+fn limits_of(case_limits: CaseLimits) -> Option<Limits> {
+    let top = Top::new(case_limits.bits)?;
+    Limits::new(u64::from(case_limits.nodes), top)
 }
 
 /// Rows, each on a line of its own.
@@ -32,42 +32,7 @@ struct Rows<'a>(&'a [Row]);
 impl<'a> fmt::Display for Rows<'a> {
     fn fmt<W: fmt::Write>(&self, f: &mut fmt::Formatter<W>) -> fmt::Result {
         for row in self.0 {
-            write!(f, "\n  row {}", row.request)?;
-            write_words(row.rival.as_slice(), f)?;
-        }
-        Ok(())
-    }
-}
-
-/// Numbers, with a blank before each.
-fn write_words<W: fmt::Write>(numbers: &[u32], f: &mut fmt::Formatter<W>) -> fmt::Result {
-    for number in numbers {
-        write!(f, " {number}")?;
-    }
-    Ok(())
-}
-
-/// The entries of a tree, each on a line of its own.
-#[derive(Drop)]
-struct Entries<'a>(&'a [Entry]);
-
-impl<'a> fmt::Display for Entries<'a> {
-    fn fmt<W: fmt::Write>(&self, f: &mut fmt::Formatter<W>) -> fmt::Result {
-        for entry in self.0 {
-            write!(f, "\n  {}", Line(entry))?;
-        }
-        Ok(())
-    }
-}
-
-/// Costs, with a blank before each.
-#[derive(Drop)]
-struct Costs<'a>(&'a [u16]);
-
-impl<'a> fmt::Display for Costs<'a> {
-    fn fmt<W: fmt::Write>(&self, f: &mut fmt::Formatter<W>) -> fmt::Result {
-        for cost in self.0 {
-            write!(f, " {cost}")?;
+            write!(f, "\n  row {}{}", row.request, Spaced(row.rival.as_slice()))?;
         }
         Ok(())
     }
@@ -77,10 +42,10 @@ impl<'a> fmt::Display for Costs<'a> {
 fn found_text(alloc: Global, found: &Found, rows: &[Row]) -> Result<String, OutOfMemory> {
     let (word, tree) = match found {
         Found::Costs(costs) => {
-            return Ok(format!(in alloc; ": costs{}", Costs(costs.as_slice()))?);
+            return Ok(format!(in alloc; ": costs{}", Spaced(costs.as_slice()))?);
         }
         Found::Refuted(tree) => ("refuted", tree),
-        Found::Undecided(tree) => ("spent", tree),
+        Found::Undecided(tree) => ("undecided", tree),
     };
     let entries = Entries(tree.as_slice());
     Ok(format!(in alloc; ": {word}{}{entries}", Rows(rows))?)
@@ -122,9 +87,9 @@ pub(crate) fn decide_text(
     alloc: Global,
     problem: &Problem,
     cap: u16,
-    budget: Budget,
+    case_limits: CaseLimits,
 ) -> Result<String, OutOfMemory> {
-    let Some(limits) = limits_of(budget) else {
+    let Some(limits) = limits_of(case_limits) else {
         return Ok(String::from_str(alloc, ": no budget")?);
     };
     if !are_below(problem.low.as_slice(), cap) {
@@ -134,67 +99,67 @@ pub(crate) fn decide_text(
     decided_text(alloc, problem, cap, &limits, &mut advisors)
 }
 
-/// So many choices.
-fn choices(alloc: Global, count: u32) -> Result<Vec<Candidate>, AllocError> {
-    let mut choices = Vec::new(alloc);
+/// So many candidates.
+fn candidates(alloc: Global, count: u32) -> Result<Vec<Candidate>, AllocError> {
+    let mut candidates = Vec::new(alloc);
     for var in 0..count {
-        choices.push(Candidate {
+        candidates.push(Candidate {
             var,
             floor: 1,
             low: 1,
             high: 2,
         })?;
     }
-    Ok(choices)
+    Ok(candidates)
 }
 
-/// What deciding a cap with these advisors answers, and what is chosen of these choices then.
+/// What deciding a cap with these advisors answers, and what is chosen of these candidates then.
 fn chosen_text(
     problem: &Problem,
     cap: u16,
     limits: &Limits,
     advisors: &mut Vec<Box<dyn Advisor>>,
-    choices: &[Candidate],
+    candidates: &[Candidate],
 ) -> Result<String, OutOfMemory>
     requires cap { All (λ low. low ≤ cap) problem.now.low }
-    requires some { 0 < length choices.now }
+    requires some { 0 < length candidates.now }
 {
     let alloc = *advisors.allocator();
     let text = decided_text(alloc, problem, cap, limits, advisors)?;
-    let chosen = choose(advisors, choices);
+    let chosen = choose(advisors, candidates);
     let left = advisors.len();
     Ok(format!(in alloc; "{text}\n  chosen {chosen}, advisors left {left}")?)
 }
 
-/// What deciding a cap with an advisor that counts answers, and what is chosen of these choices then.
+/// What deciding a cap with an advisor that counts answers, and what is chosen of these candidates then.
 fn counted_text(
     alloc: Global,
     problem: &Problem,
     cap: u16,
     limits: &Limits,
-    choices: &[Candidate],
+    candidates: &[Candidate],
 ) -> Result<String, OutOfMemory> {
-    if choices.is_empty() || !are_below(problem.low.as_slice(), cap) {
+    if candidates.is_empty() || !are_below(problem.low.as_slice(), cap) {
         return Ok(String::from_str(alloc, ": unfit")?);
     }
     let mut advisors: Vec<Box<dyn Advisor>> = Vec::new(alloc);
     advisors.push(Box::new(alloc, Counting { told: 0 })?)?;
-    chosen_text(problem, cap, limits, &mut advisors, choices)
+    chosen_text(problem, cap, limits, &mut advisors, candidates)
 }
 
-/// What deciding a cap with an advisor that counts answers, and what is chosen of so many choices then.
+/// What deciding a cap with an advisor that counts answers, and what is chosen of so many candidates then.
 pub(crate) fn told_text(
     alloc: Global,
     problem: &Problem,
     cap: u16,
-    budget: Budget,
+    case_limits: CaseLimits,
     count: u32,
 ) -> Result<String, OutOfMemory> {
-    let Some(limits) = limits_of(budget) else {
+    let Some(limits) = limits_of(case_limits) else {
         return Ok(String::from_str(alloc, ": no budget")?);
     };
-    let choices = choices(alloc, count)?;
-    counted_text(alloc, problem, cap, &limits, choices.as_slice())
+    let candidates = candidates(alloc, count)?;
+    counted_text(alloc, problem, cap, &limits, candidates.as_slice())
 }
 
 /// An answer, where it has room.
@@ -216,9 +181,9 @@ fn text_of(alloc: Global, bytes: &[u8]) -> Result<String, OutOfMemory> {
 pub(crate) fn least_text(
     alloc: Global,
     problem: &Problem,
-    budget: Budget,
+    case_limits: CaseLimits,
 ) -> Result<String, OutOfMemory> {
-    let Some(limits) = limits_of(budget) else {
+    let Some(limits) = limits_of(case_limits) else {
         return Ok(String::from_str(alloc, ": no budget")?);
     };
     let mut advisors: Vec<Box<dyn Advisor>> = Vec::new(alloc);

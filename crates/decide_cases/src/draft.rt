@@ -1,7 +1,7 @@
 //! What the lines of a script say of a problem, before it is known to be one.
 
 use crate::conditions::is_problem;
-use area_graph::{Edge, Graph, Vertex, fits_graph};
+use area_graph::{Edge, Graph, Vertex, fits_graph, vertices_of};
 use cost_base::{Listed, Name, OutOfMemory};
 use design_problem::{Problem, Request, VarName};
 use std::alloc::Global;
@@ -20,7 +20,7 @@ struct Lists {
     vars: Listed<VarName>,
     low: Listed<u16>,
     high: Listed<u16>,
-    paths: Listed<Request>,
+    requests: Listed<Request>,
 }
 
 impl Lists {
@@ -30,7 +30,7 @@ impl Lists {
             vars: Listed::new(alloc),
             low: Listed::new(alloc),
             high: Listed::new(alloc),
-            paths: Listed::new(alloc),
+            requests: Listed::new(alloc),
         }
     }
 }
@@ -51,14 +51,11 @@ impl Draft {
         routers: u32,
         subnets: u32,
     ) -> Result<Draft, OutOfMemory> {
-        let mut draft = Draft::new(alloc);
-        for number in 0..routers {
-            draft.vertices.push(Vertex::Router(number))?;
-        }
-        for number in 0..subnets {
-            draft.vertices.push(Vertex::Subnet(number))?;
-        }
-        Ok(draft)
+        Ok(Draft {
+            vertices: vertices_of(alloc, routers, subnets)?,
+            edges: Vec::new(alloc),
+            lists: Lists::new(alloc),
+        })
     }
 
     /// One more edge.
@@ -86,7 +83,7 @@ impl Draft {
 
     /// One more wanted path.
     pub(crate) fn add_path(&mut self, request: Request) -> Result<(), OutOfMemory> {
-        self.lists.paths.push(request)
+        self.lists.requests.push(request)
     }
 
     /// The problem that is said, where it is one.
@@ -121,20 +118,26 @@ fn graph_of(
 
 /// The problem of these parts, where they are those of one.
 fn problem_of(graph: Graph, lists: Lists) -> Option<Problem> {
-    if !is_problem(&graph, &lists.vars, &lists.low, &lists.high, &lists.paths) {
+    if !is_problem(
+        &graph,
+        &lists.vars,
+        &lists.low,
+        &lists.high,
+        &lists.requests,
+    ) {
         return None;
     }
     let Lists {
         vars,
         low,
         high,
-        paths,
+        requests,
     } = lists;
     Some(Problem {
         graph,
         vars,
         low,
         high,
-        paths,
+        requests,
     })
 }

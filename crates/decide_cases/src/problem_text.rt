@@ -1,6 +1,7 @@
 //! A problem and a box as they are written: the lines of a script that say them.
 
 use area_graph::{Graph, Price, Vertex};
+use case_scripts::Spaced;
 use cost_base::{Name, OutOfMemory};
 use design_problem::{CostBox, Problem, Request, VarName};
 use std::alloc::Global;
@@ -71,24 +72,15 @@ impl<'a> fmt::Display for FreeLines<'a> {
     }
 }
 
-/// Numbers of edges, with a blank before each.
-fn write_numbers<W: fmt::Write>(numbers: &[u32], f: &mut fmt::Formatter<W>) -> fmt::Result {
-    for number in numbers {
-        write!(f, " {number}")?;
-    }
-    Ok(())
-}
-
 /// The line of a wanted path.
 fn write_path<W: fmt::Write>(request: &Request, f: &mut fmt::Formatter<W>) -> fmt::Result {
-    write!(f, "\n  path {} {}", request.path.start, request.end)?;
-    write_numbers(request.path.edges.as_slice(), f)?;
+    let edges = Spaced(request.path.edges.as_slice());
+    write!(f, "\n  path {} {}{edges}", request.path.start, request.end)?;
     let excluded = request.excluded.as_slice();
     if excluded.is_empty() {
         return Ok(());
     }
-    write!(f, " without")?;
-    write_numbers(excluded, f)
+    write!(f, " without{}", Spaced(excluded))
 }
 
 /// The lines of the wanted paths.
@@ -128,6 +120,6 @@ pub(crate) fn problem_text(alloc: Global, problem: &Problem) -> Result<String, O
     let graph = GraphLines(&problem.graph);
     let free = FreeLines(problem.vars.as_slice());
     let ranges = Ranges(problem.low.as_slice(), problem.high.as_slice());
-    let paths = PathLines(problem.paths.as_slice());
-    Ok(format!(in alloc; ":{graph}{free}\n  ranges{ranges}{paths}")?)
+    let requests = PathLines(problem.requests.as_slice());
+    Ok(format!(in alloc; ":{graph}{free}\n  ranges{ranges}{requests}")?)
 }

@@ -7,15 +7,15 @@ use Rattle.design_problem.specs.Problems.{DesignProblem}
 use Rattle.design_problem.specs.Answers.{AnswerParts}
 use Rattle.design_problem.specs.declared.tree.Entry.{Entry}
 use Rattle.cut_advisors.specs.declared.candidate.Candidate.{Candidate}
-use Rattle.least_bound.specs.Asking.{IsAskedAnswering}
-use Rattle.command_words.specs.Jobs.{SearchLimits}
+use Rattle.least_bound.specs.AdvisorsAsked.{IsAskedAnswering}
+use Rattle.wide_fraction.specs.SearchLimits.{SearchLimits}
 use Rattle.input_files.specs.declared.stop.Stop.{Stop}
 use Rattle.input_files.specs.declared.stop.Stop.TheVariants as stops
 use Rattle.input_files.specs.Readings.{Reading, End, Says, Faulty, Failed, EndsAs}
 use Rattle.input_files.specs.Stops.{IsReadAs, refusal_in}
 use Rattle.report_writer.specs.declared.report.Report.{Report}
 use Rattle.report_writer.specs.Reports.{ReportsAny, bytes_in}
-use Rattle.design_commands.specs.Asking.{AsksAt, IsMadeText}
+use Rattle.design_commands.specs.AdvisorsAsked.{AsksAt, IsMadeText}
 
 -- asked of the same problem, within the same limits
 pub same_asked : {A : Type 0} (IsItself : A → A → Type 0) (state : A → List ℕ) (would : A → List ℕ → List Candidate → ℕ)
@@ -33,7 +33,8 @@ pub read_alone : {A : Type 0} (m : Reading A) (came : List Taken) (Fits asks : R
 read_alone m came Fits asks (Ok made) h = record { said = h.said; ends = h.ends; fits = h.fits.0 }
 read_alone m came Fits asks (Err stop) h = h
 
--- where nobody is asked once a file stopped it, the advisors are asked by the one end that the reading has, and for what is printed
+-- where nobody is asked once a file stopped it, the advisors are asked by the one end that the reading has, and for
+-- what is printed
 pub asks_one : {A : Type 0} (m : Reading A) (came : List Taken) (Fits : Report → A → Type 0) (asks : List ℕ → A → Type 0) (nobody : Type 0)
     (made : Result Report Stop) → IsReadAs m came (λ report x. Fits report x × asks (bytes_in report.text) x) made →
     IfErr made (λ stop. (stop ≡ stops.OutOfMemory) ⊎ nobody) →

@@ -4,7 +4,7 @@ use Rattle.cost_base.specs.Histories.{Taken}
 use Rattle.design_problem.specs.Problems.{DesignProblem}
 use Rattle.design_problem.specs.Answers.{AnswerParts}
 use Rattle.design_problem.specs.Text.{text}
-use Rattle.command_words.specs.Jobs.{SearchLimits}
+use Rattle.wide_fraction.specs.SearchLimits.{SearchLimits}
 use Rattle.input_files.specs.declared.problem.View.TheVariants.{AsRequested}
 use Rattle.input_files.specs.Inputs.{InputFiles}
 use Rattle.input_files.specs.Readings.{Gave}
@@ -14,7 +14,7 @@ use Rattle.input_files.proofs.Problems.{IsProblemOf}
 use Rattle.input_files.proofs.ReadyInputs.{ready_is}
 use Rattle.report_writer.specs.declared.report.Report.{Report}
 use Rattle.report_writer.specs.Reports.{Reports, bytes_in}
-use Rattle.design_commands.specs.Asking.{TellsAnswer}
+use Rattle.design_commands.specs.AdvisorsAsked.{TellsAnswer}
 use Rattle.design_commands.specs.Designs.{IsAnswerTo, verdict_status, MayDesign}
 use Rattle.design_commands.proofs.DesignedLaws.{answer_may}
 use Rattle.report_writer.proofs.ReportLaws.{may_report}

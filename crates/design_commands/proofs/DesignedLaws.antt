@@ -14,15 +14,14 @@ use Rattle.design_problem.specs.declared.answer.Verdict.{Verdict}
 use Rattle.design_problem.specs.declared.answer.Verdict.TheVariants.{Optimal, Impossible, Undecided}
 use Rattle.design_problem.specs.Problems.{DesignProblem, request_ends}
 use Rattle.design_problem.specs.Rows.{IsFit}
-use Rattle.design_problem.specs.Answers.{AnswerParts, Names, IsValid}
+use Rattle.design_problem.specs.Answers.{AnswerParts, CostLinesOf, IsValid}
 use Rattle.design_problem.specs.ProblemLaws.{GivesBest, IsTrueVerdict}
-use Rattle.design_problem.specs.Bounds.{IsCost, BoundsCosts}
+use Rattle.design_problem.specs.AnswerRanges.{IsCost, BoundsCosts}
 use Rattle.design_problem.specs.Text.{FitsCostLine, FitsCosts, text}
 use Rattle.design_problem.proofs.ProblemTrees.{valid_holds}
 use Rattle.evidence_text.specs.AnswerValues.{IsAnswerValue}
-use Rattle.printed_rows.specs.PrintedCosts.{CostLinesOf}
 use Rattle.least_bound.specs.Answered.{VerdictHolds}
-use Rattle.command_words.specs.Jobs.{SearchLimits}
+use Rattle.wide_fraction.specs.SearchLimits.{SearchLimits}
 use Rattle.input_files.specs.Outcomes.{Input}
 use Rattle.input_files.proofs.ReadyInputs.{IsReadyInput}
 use Rattle.design_commands.specs.Designs.{IsAnswerTo, IsDesigned, IsShownImpossible, IsShownUndecided, verdict_status, MayDesign, AreCheapestBack}
@@ -52,7 +51,7 @@ lines_printable w (name ∷ names) (line ∷ lines) zip fit small =
 
 -- so are the printed costs of an answer
 answer_printable : (p : DesignProblem) (a : AnswerParts) (costs : Costs) (w : List ℕ) → IsAnswerValue a →
-    a.costs ≡ Some costs → Names p costs.lines w → ArePrintable p.vars w
+    a.costs ≡ Some costs → CostLinesOf w p.vars costs.lines → ArePrintable p.vars w
 answer_printable p a costs w value some names =
     let fit : All FitsCostLine costs.lines = subst (λ o. FitsCosts o) some value.fits.costs in
     let small : BoundsCosts (Some costs) = subst (λ o. BoundsCosts o) some value.bounds.costs in
@@ -77,7 +76,7 @@ costs_back d a k bytes ready value gives prints =
 -- and make each wanted path the only cheapest there
 pub cheapest_back : (d : Input) (bytes w : List ℕ) → IsReadBack d bytes w → IsFit d.problem w → AreCheapestBack d bytes
 cheapest_back d bytes w back fit = λ n r within.
-    let request : Request = get_or d.problem.paths n r in
+    let request : Request = get_or d.problem.requests n r in
     subst (λ (g : Area). IsOnlyCheapest g (at_costs []) (request_ends request) request.path.edges) (sym back.graph)
     ((only_cheapest_with w d.problem.graph (request_ends request) request.path.edges).1 (fit.only n r within))
 

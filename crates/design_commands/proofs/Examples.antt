@@ -60,7 +60,7 @@ input = record {
     vars = record { router = codes "A"; interface = codes "eth0"; var = 0 } ∷ record { router = codes "B"; interface = codes "eth0"; var = 1 } ∷ [];
     low = 1 ∷ 1 ∷ [];
     high = 65535 ∷ 65535 ∷ [];
-    paths = record { path = record { start = 0; edges = 0 ∷ [] }; end = 1; excluded = [] } ∷ [];
+    requests = record { path = record { start = 0; edges = 0 ∷ [] }; end = 1; excluded = [] } ∷ [];
   };
 }
 

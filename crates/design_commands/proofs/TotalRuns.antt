@@ -7,7 +7,6 @@ use Rattle.cost_base.specs.Histories.{Taken}
 use Rattle.text_lines.specs.Lines.{with_ends}
 use Rattle.text_lines.proofs.LineLaws.{with_ends-append}
 use Rattle.config_reader.proofs.PrintedLines.{all_lack_end}
-use Rattle.evidence_text.specs.Parts.{rows_lines}
 use Rattle.design_problem.specs.declared.answer.CapTree.{CapTree}
 use Rattle.design_problem.specs.declared.answer.Verdict.{Verdict}
 use Rattle.design_problem.specs.declared.answer.Verdict.TheVariants.{Optimal, Impossible, Undecided}
@@ -17,16 +16,16 @@ use Rattle.design_problem.specs.Problems.{DesignProblem}
 use Rattle.design_problem.specs.Rows.{greatest_cost}
 use Rattle.design_problem.specs.Answers.{AnswerParts, IsValid}
 use Rattle.design_problem.specs.ProblemLaws.{GivesBest}
-use Rattle.design_problem.specs.Text.{text, spaced, tree_lines}
+use Rattle.design_problem.specs.Text.{text, spaced, tree_lines, rows_lines}
 use Rattle.evidence_text.specs.AnswerValues.{IsAnswerValue}
 use Rattle.least_bound.specs.Answered.{ProofIsPrinted, VerdictHolds, IsAnswerSheet}
 use Rattle.least_total.specs.declared.finding.Total.{Total}
 use Rattle.least_total.specs.declared.finding.Total.TheVariants.{Least, Undecided as TotalUndecided}
-use Rattle.least_total.specs.declared.finding.TotalProof.{TotalProof}
-use Rattle.least_total.specs.declared.finding.TotalProof.TheVariants.{Floor, Tree}
+use Rattle.least_total.specs.declared.finding.TotalEvidence.{TotalEvidence}
+use Rattle.least_total.specs.declared.finding.TotalEvidence.TheVariants.{Floor, Tree}
 use Rattle.least_total.specs.Totals.{HasLeastTotal, total}
 use Rattle.least_total.specs.Results.{IsTotalAnswer, IsRecosted, IsUndecidedTotal, ShowsLeastTotal}
-use Rattle.command_words.specs.Jobs.{SearchLimits}
+use Rattle.wide_fraction.specs.SearchLimits.{SearchLimits}
 use Rattle.input_files.specs.declared.problem.View.TheVariants.{AsRequested}
 use Rattle.input_files.specs.Inputs.{InputFiles}
 use Rattle.input_files.specs.Readings.{Gave}
@@ -82,7 +81,7 @@ behind_lacks sum shown lack =
 behind_other : (sum : ℕ) (shown : List (List ℕ)) → all_other shown ≡ true → all_other (behind_it sum shown) ≡ true
 behind_other sum shown other = others_append (spaced (codes "total" ∷ decimal sum ∷ []) ∷ shown) (codes "end" ∷ []) other refl
 
-shown_quiet : (k : ℕ) (proof : TotalProof) → AreQuiet (shown_lines k proof)
+shown_quiet : (k : ℕ) (proof : TotalEvidence) → AreQuiet (shown_lines k proof)
 shown_quiet k Floor = record { lack = refl; other = refl }
 shown_quiet k (Tree rows tree) =
     quiet_append (rows_lines rows.items) (tree_lines (codes "proof") (Some (at_cap k tree))) (rows_quiet rows.items) (proof_quiet (Some (at_cap k tree)))
@@ -94,12 +93,12 @@ bound_quiet bound k rows tree =
     (quiet_append (rows_lines rows) (tree_lines (codes "open") (Some (at_cap k tree))) (rows_quiet rows) (open_quiet (Some (at_cap k tree))))
 
 -- an answer with the same rows and trees has the same sheet
-same_sheet : (p : DesignProblem) (a b : AnswerParts) → b.rows ≡ a.rows → b.proof ≡ a.proof → b.unfinished ≡ a.unfinished →
-    IsAnswerSheet p a.rows a.proof a.unfinished → IsAnswerSheet p b.rows b.proof b.unfinished
-same_sheet p a b same_rows same_proof same_unfinished sheet =
-    subst (λ (t : Option CapTree). IsAnswerSheet p b.rows b.proof t) (sym same_unfinished)
-    (subst (λ (t : Option CapTree). IsAnswerSheet p b.rows t a.unfinished) (sym same_proof)
-    (subst (λ (rs : List Row). IsAnswerSheet p rs a.proof a.unfinished) (sym same_rows) sheet))
+same_sheet : (p : DesignProblem) (a b : AnswerParts) → b.rows ≡ a.rows → b.proof ≡ a.proof → b.undecided ≡ a.undecided →
+    IsAnswerSheet p a.rows a.proof a.undecided → IsAnswerSheet p b.rows b.proof b.undecided
+same_sheet p a b same_rows same_proof same_undecided sheet =
+    subst (λ (t : Option CapTree). IsAnswerSheet p b.rows b.proof t) (sym same_undecided)
+    (subst (λ (t : Option CapTree). IsAnswerSheet p b.rows t a.undecided) (sym same_proof)
+    (subst (λ (rs : List Row). IsAnswerSheet p rs a.proof a.undecided) (sym same_rows) sheet))
 
 -- the answer with other costs is an answer to the problem
 recosted_to : (limits : SearchLimits) (p : DesignProblem) (a b : AnswerParts) (w : List ℕ) → IsAnswerTo limits p a →
@@ -150,7 +149,7 @@ recosted_designed limits d a b w ready to other value =
 same_cap : (p : DesignProblem) (a b : AnswerParts) (w : List ℕ) (k : ℕ) → a.verdict ≡ Optimal k → IsRecosted p a b w → greatest_cost w ≡ k
 same_cap p a b w k is other = ap cap_in (sym other.tells ∙ other.verdict ∙ is)
 
-shows_total : (limits : SearchLimits) (p : DesignProblem) (w : List ℕ) (k : ℕ) (proof : TotalProof) → greatest_cost w ≡ k →
+shows_total : (limits : SearchLimits) (p : DesignProblem) (w : List ℕ) (k : ℕ) (proof : TotalEvidence) → greatest_cost w ≡ k →
     ShowsLeastTotal p limits.top limits.nodes (greatest_cost w) (total w) proof → IsFloorTotal p w (shown_lines k proof)
     ⊎ IsProvedTotal limits p w (shown_lines k proof)
 shows_total limits p w k Floor same shows = inl (record { floor = shows; spelled = refl })

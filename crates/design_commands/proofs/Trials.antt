@@ -18,7 +18,7 @@ use Rattle.design_problem.specs.Problems.{DesignProblem}
 use Rattle.design_problem.specs.Rows.{AreBestCosts, greatest_cost}
 use Rattle.design_problem.specs.GivenCosts.{costs_given}
 use Rattle.design_problem.proofs.GivenCosts.{names_written}
-use Rattle.design_problem.specs.Answers.{AnswerParts, Names, lines_in}
+use Rattle.design_problem.specs.Answers.{AnswerParts, CostLinesOf, lines_in}
 use Rattle.design_problem.specs.Text.{text}
 use Rattle.evidence_text.specs.AnswerValues.{IsAnswerValue}
 use Rattle.least_bound.specs.Answered.{VerdictHolds}
@@ -37,7 +37,7 @@ use Rattle.report_writer.specs.Reports.{Reports, ReportsAny, bytes_in}
 use Rattle.report_writer.specs.Texts.{refused_line}
 use Rattle.design_commands.specs.Designs.{IsAnswerTo, IsShownImpossible, IsShownUndecided, verdict_status}
 use Rattle.design_commands.specs.Trials.{MayTry, MayTryEnd, MayTrial, trial_end, trial_files, named_trial_texts, costless_line, summary_line, trial_limits, TellsTrial, trial_text}
-use Rattle.design_commands.specs.Asking.{AsksAt, IsMadeText}
+use Rattle.design_commands.specs.AdvisorsAsked.{AsksAt, IsMadeText}
 use Rattle.design_commands.proofs.Asking.{asked_of_report, asks_one, read_alone}
 use Rattle.design_commands.proofs.DesignedLaws.{gives_best, impossible_is, undecided_is}
 use Rattle.report_writer.proofs.ReportLaws.{may_report}
@@ -71,7 +71,7 @@ best_tried blocks start p a k lines result to is are made =
     let gives = (gives_best trial_limits p a k to is).1 in
     let w : List ℕ = gives.values in
     let printed : lines ≡ gives.costs.lines = are ∙ ap lines_in gives.is_printed in
-    let names : Names p lines w = subst (λ (ls : List CostLine). Names p ls w) (sym printed) gives.names in
+    let names : CostLinesOf w p.vars lines = subst (λ (ls : List CostLine). CostLinesOf w p.vars ls) (sym printed) gives.names in
     let given : costs_given p lines ≡ w = names_written p lines w to.kept.each_named gives.best.fit.within.low_count names in
     let line : List ℕ = summary_line blocks start (codes "optimal") (decimal k) (decimal (sum (costs_given p lines))) in
     let line_is : line ≡ summary_line blocks start (codes "optimal") (decimal (greatest_cost w)) (decimal (sum w))
@@ -161,7 +161,8 @@ end_tried blocks start texts names came (Ok report) result are read same =
     (subst (λ (e : End Input). MayTryEnd blocks start e report.status (bytes_in report.text)) (sym end) read.fits)
 end_tried blocks start texts names came (Err (stops.Refused number file line)) result are read r =
     let fault = refusal_in number file line in
-    let end : end_of_reading texts (outcome AsRequested names) ≡ Faulty fault = ends_on texts (outcome AsRequested names) came (Faulty fault) read are.told are.sure in
+    let end : end_of_reading texts (outcome AsRequested names) ≡ Faulty fault = ends_on texts (outcome AsRequested names) came (Faulty fault) read are.told
+    are.sure in
     IfOk-weaker result (Reports status.InputRefused (refused_line fault))
     (λ made. MayTryEnd blocks start (end_of_reading texts (outcome AsRequested names)) made.status (bytes_in made.text))
     (λ report is. subst (λ (e : End Input). MayTryEnd blocks start e report.status (bytes_in report.text)) (sym end)

@@ -1,4 +1,4 @@
-pub mod Asking
+pub mod AdvisorsAsked
 pub mod Designs
 pub mod Trials
 pub mod TotalRuns

@@ -12,20 +12,19 @@ use Rattle.design_problem.specs.Trees.{IsClosed}
 use Rattle.design_problem.specs.declared.answer.Verdict.{Verdict}
 use Rattle.design_problem.specs.declared.answer.Verdict.TheVariants.{Optimal, Impossible as ByNone, Undecided as VerdictUndecided}
 use Rattle.design_problem.specs.Answers.{AnswerParts}
-use Rattle.design_problem.specs.Text.{row_line, spaced, text, tree_lines}
+use Rattle.design_problem.specs.Text.{row_line, spaced, text, tree_lines, rows_lines}
 use Rattle.evidence_text.specs.AnswerValues.{IsAnswerValue}
 use Rattle.text_lines.specs.Lines.{with_ends}
-use Rattle.evidence_text.specs.Parts.{rows_lines}
 use Rattle.least_total.specs.Totals.{HasLeastTotal, total}
 use Rattle.printed_rows.specs.FittingTexts.{FitText}
 use Rattle.least_total.specs.Results.{IsTotalAnswer, IsPrintedWithin, IsUndecidedTotal, IsTotalSheet}
 use Rattle.least_total.specs.declared.finding.Total.{Total}
 use Rattle.least_total.specs.declared.finding.Total.TheVariants.{Least, Undecided as TotalUndecided}
-use Rattle.least_total.specs.declared.finding.TotalProof.{TotalProof}
-use Rattle.least_total.specs.declared.finding.TotalProof.TheVariants.{Floor, Tree}
+use Rattle.least_total.specs.declared.finding.TotalEvidence.{TotalEvidence}
+use Rattle.least_total.specs.declared.finding.TotalEvidence.TheVariants.{Floor, Tree}
 use Rattle.report_writer.specs.declared.report.Report.{Report}
 use Rattle.report_writer.specs.Reports.{Reports}
-use Rattle.command_words.specs.Jobs.{SearchLimits}
+use Rattle.wide_fraction.specs.SearchLimits.{SearchLimits}
 use Rattle.input_files.specs.Outcomes.{Input}
 use Rattle.design_commands.specs.Designs.{IsDesigned, IsShownImpossible, IsShownUndecided, AreCheapestBack}
 use Rattle.read_back_laws.specs.ReadBack.{IsReadBack}
@@ -54,8 +53,8 @@ bound_lines bound rows t = spaced (codes "bound" ∷ decimal bound ∷ []) ∷ (
 abbrev pub at_cap : ℕ → List Entry → CapTree
 at_cap cap tree = record { cap = cap; tree = tree }
 
--- the lines print a closed earnest tree over the box at the costs' greatest cost, in which the form of the total has the
--- bound right below the costs' total: none of best costs has a smaller total
+-- the lines print a closed earnest tree over the box at the costs' greatest cost, in which the form of the total has
+-- the bound right below the costs' total: none of best costs has a smaller total
 pub record IsProvedTotal (limits : SearchLimits) (p : DesignProblem) (w : List ℕ) (shown : List (List ℕ)) : Type 0 where
   pub most : ℕ
   pub below : most + 1 ≡ total w
@@ -71,8 +70,8 @@ pub record IsFloorTotal (p : DesignProblem) (w : List ℕ) (shown : List (List �
   pub floor : total w ≡ total p.low
   pub spelled : shown ≡ floor_lines
 
--- The bytes print best costs that have the least total: the text of an answer, as a design prints it, with these costs; their
--- total; and what shows that it is the least. The costs are read back from these bytes as from a design's.
+-- The bytes print best costs that have the least total: the text of an answer, as a design prints it, with these costs;
+-- their total; and what shows that it is the least. The costs are read back from these bytes as from a design's.
 pub record IsTotalled (limits : SearchLimits) (d : Input) (bytes : List ℕ) : Type 0 where
   pub inside : List ℕ
   pub designed : IsDesigned limits d inside
@@ -83,10 +82,10 @@ pub record IsTotalled (limits : SearchLimits) (d : Input) (bytes : List ℕ) : T
   pub shows : IsFloorTotal d.problem designed.costs shown ⊎ IsProvedTotal limits d.problem designed.costs shown
   pub spelled : bytes ≡ total_text inside (total designed.costs) shown
 
--- The bytes show that the budget was used up at a bound of the total: they print an answer with best costs, their total, and
--- a tree, earnest over the box at their greatest cost, with an undone entry and exactly as many entries as the budget, in which the
--- form of the total has the bound. The bound is at least the total of the lower bounds, and below that of the costs, which
--- are read back from these bytes as from a design's.
+-- The bytes show that the budget was used up at a bound of the total: they print an answer with best costs, their
+-- total, and a tree, earnest over the box at their greatest cost, with an undone entry and exactly as many entries as
+-- the budget, in which the form of the total has the bound. The bound is at least the total of the lower bounds, and
+-- below that of the costs, which are read back from these bytes as from a design's.
 pub record IsShownUndecidedTotal (limits : SearchLimits) (d : Input) (bytes : List ℕ) : Type 0 where
   pub inside : List ℕ
   pub designed : IsDesigned limits d inside
@@ -101,8 +100,8 @@ pub record IsShownUndecidedTotal (limits : SearchLimits) (d : Input) (bytes : Li
   pub used_up : IsUndecidedTotal d.problem limits.top limits.nodes (greatest_cost designed.costs) bound rows tree
   pub spelled : bytes ≡ total_text inside (total designed.costs) (bound_lines bound rows (at_cap (greatest_cost designed.costs) tree))
 
--- `total`: the least total among the best costs; or that no costs are fit; or that the budget was used up, for the greatest
--- cost or for the total
+-- `total`: the least total among the best costs; or that no costs are fit; or that the budget was used up, for the
+-- greatest cost or for the total
 abbrev pub MayTotal : SearchLimits → Input → Status → List ℕ → Type 0
 MayTotal limits d Done bytes = IsTotalled limits d bytes
 MayTotal limits d Impossible bytes = IsShownImpossible limits d.problem bytes
@@ -112,7 +111,7 @@ MayTotal limits d status bytes = ⊥
 -- What the room of the command finds.
 
 -- the lines of the evidence of a least total: `floor total`, or the rows and the tree at this cap
-abbrev pub shown_lines : ℕ → TotalProof → List (List ℕ)
+abbrev pub shown_lines : ℕ → TotalEvidence → List (List ℕ)
 shown_lines cap Floor = floor_lines
 shown_lines cap (Tree rows tree) = proof_lines rows.items (at_cap cap tree)
 
@@ -132,7 +131,7 @@ found_text cap (Least answer sum proof) = total_text (text answer) sum (shown_li
 found_text cap (TotalUndecided answer sum bound rows tree) = total_text (text answer) sum (bound_lines bound rows.items (at_cap cap tree))
 
 -- the rows and the tree that show a least total, at this cap, fit a text
-abbrev pub CanPrintProof : ℕ → TotalProof → Type 0
+abbrev pub CanPrintProof : ℕ → TotalEvidence → Type 0
 CanPrintProof cap Floor = Unit {0}
 CanPrintProof cap (Tree rows tree) = FitText row_line cap rows.items tree
 

@@ -4,6 +4,7 @@ use Rattle.std.specs.List.{sum, zip}
 use Rattle.cost_base.specs.declared.Status.{Status}
 use Rattle.cost_base.specs.declared.Status.TheVariants.{Done, Impossible, Undecided, InputRefused}
 use Rattle.cost_base.specs.Decimal.{decimal}
+use Rattle.line_builder.specs.Words.{with_words}
 use Rattle.trial_maker.specs.declared.TrialTexts.{TrialTexts}
 use Rattle.trial_maker.specs.TrialTexts.{made_trial}
 use Rattle.design_problem.specs.Problems.{DesignProblem}
@@ -12,9 +13,9 @@ use Rattle.design_problem.specs.declared.answer.Verdict.{Verdict}
 use Rattle.design_problem.specs.declared.answer.Verdict.TheVariants.{Optimal, Impossible as ByNone, Undecided as ByBudget}
 use Rattle.design_problem.specs.Answers.{AnswerParts, lines_in}
 use Rattle.design_problem.specs.GivenCosts.{costs_given}
-use Rattle.design_problem.specs.Text.{text}
+use Rattle.design_problem.specs.Text.{spaced, text}
 use Rattle.evidence_text.specs.AnswerValues.{IsAnswerValue}
-use Rattle.command_words.specs.Jobs.{SearchLimits}
+use Rattle.wide_fraction.specs.SearchLimits.{SearchLimits}
 use Rattle.input_files.specs.declared.problem.View.TheVariants.{AsRequested}
 use Rattle.input_files.specs.Inputs.{InputFiles}
 use Rattle.input_files.specs.Readings.{End, Says, Faulty, Failed}
@@ -28,15 +29,16 @@ abbrev pub trial_limits : SearchLimits
 trial_limits = record { nodes = 100000; top = 2 ^ 127 - 1 }
 
 -- what a trial's summary line begins with: `trial blocks T start S routers R interfaces I requests Q`
-abbrev pub trial_part : ℕ → ℕ → List ℕ
-trial_part blocks start =
-    codes "trial blocks " ++ decimal blocks ++ codes " start " ++ decimal start ++ codes " routers " ++ decimal (3 * blocks + 1)
-    ++ codes " interfaces " ++ decimal (8 * blocks) ++ codes " requests " ++ decimal (blocks + 1)
+abbrev pub trial_words : ℕ → ℕ → List (List ℕ)
+trial_words blocks start =
+    codes "trial" ∷ codes "blocks" ∷ decimal blocks ∷ codes "start" ∷ decimal start ∷ codes "routers" ∷ decimal (3 * blocks + 1)
+    ∷ codes "interfaces" ∷ decimal (8 * blocks) ∷ codes "requests" ∷ decimal (blocks + 1) ∷ []
 
--- the summary line of a trial: what it is made of, ` verdict V greatest G total C`, and an LF
+-- the summary line of a trial: what it is made of, and `verdict V greatest G total C`
 abbrev pub summary_line : ℕ → ℕ → List ℕ → List ℕ → List ℕ → List ℕ
 summary_line blocks start verdict greatest total =
-    trial_part blocks start ++ codes " verdict " ++ verdict ++ codes " greatest " ++ greatest ++ codes " total " ++ total ++ 10 ∷ []
+    with_words (spaced (trial_words blocks start))
+    (codes "verdict" ∷ verdict ∷ codes "greatest" ∷ greatest ∷ codes "total" ∷ total ∷ []) ++ 10 ∷ []
 
 -- the summary line of a trial without best costs
 abbrev pub costless_line : ℕ → ℕ → List ℕ → List ℕ
@@ -54,7 +56,8 @@ pub record IsLineFollowedBy (line : List ℕ) (IsText : List ℕ → Type 0) (by
   pub spelled : bytes ≡ line ++ behind
   pub is_text : IsText behind
 
--- the text by the answer to a trial's problem: the summary line, and where there are no best costs the answer's text behind it
+-- the text by the answer to a trial's problem: the summary line, and where there are no best costs the answer's text
+-- behind it
 abbrev pub trial_text : ℕ → ℕ → DesignProblem → AnswerParts → Verdict → List ℕ
 trial_text blocks start p a (Optimal k) =
     summary_line blocks start (codes "optimal") (decimal k) (decimal (sum (costs_given p (lines_in a.costs))))

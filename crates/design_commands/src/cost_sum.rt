@@ -4,19 +4,8 @@ ghost use Rattle.std.specs.List.{sum};
 ghost use Rattle.design_problem.specs.GivenCosts.{costs_given};
 
 use cost_base::OutOfMemory;
-use design_problem::{CostLine, Problem, costs_given};
+use design_problem::{CostLine, Problem, costs_given, sum_of_costs};
 use std::alloc::Global;
-
-/// The sum of costs.
-fn sum_of(costs: &[u16]) -> u128
-    ensures { result ≡ sum costs.now }
-{
-    let mut total = 0u128;
-    for cost in costs {
-        total += u128::from(*cost);
-    }
-    total
-}
 
 /// The total of the costs of all variables, by the lines of an answer.
 pub(crate) fn total_of(
@@ -29,5 +18,5 @@ pub(crate) fn total_of(
 {
     let count = problem.low.as_slice().len();
     let costs = costs_given(alloc, count, problem.vars.as_slice(), lines)?;
-    Ok(sum_of(&costs))
+    Ok(sum_of_costs(&costs))
 }

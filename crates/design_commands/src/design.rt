@@ -1,14 +1,14 @@
 //! `design`: an answer to the files of words.
 ghost use Rattle.std.specs.Prelude.{◌≡◌, ◌⊎◌, ℕ, List, IfErr, IfOk};
-ghost use Rattle.command_words.specs.Jobs.{limits_seen};
+ghost use Rattle.wide_fraction.specs.SearchLimits.{limits_seen};
 ghost use Rattle.design_problem.specs.Text.{text};
-ghost use Rattle.form_search.specs.Advised.{AreCalled};
-ghost use Rattle.least_bound.specs.Asking.{AreAskedAnswering};
+ghost use Rattle.form_search.specs.AdvisorsAsked.{AreCalled};
+ghost use Rattle.least_bound.specs.AdvisorsAsked.{AreAskedAnswering};
 ghost use Rattle.input_files.specs.Readings.{Gave};
 ghost use Rattle.input_files.specs.Outcomes.{outcome};
 ghost use Rattle.input_files.specs.Stops.{IsReadAs, files_named};
 ghost use Rattle.report_writer.specs.Reports.{Reports, bytes_in};
-ghost use Rattle.design_commands.specs.Asking.{TellsAnswer};
+ghost use Rattle.design_commands.specs.AdvisorsAsked.{TellsAnswer};
 ghost use Rattle.design_commands.specs.Designs.{IsAnswerTo, verdict_status, MayDesign};
 ghost use Rattle.design_commands.specs.Made.{ReportsAnswer, ReportsDesign};
 ghost use Rattle.design_commands.specs.Made as definition;

@@ -1,9 +1,9 @@
 //! `total`: the least total among the best costs.
 ghost use Rattle.std.specs.Prelude.{◌≡◌, ◌⊎◌, ◌++◌, ◌∷◌, [], ◌≤◌, IfErr, IfOk, OnOk, codes};
 ghost use Rattle.cost_base.specs.Decimal.{decimal};
-ghost use Rattle.form_search.specs.Advised.{AreCalled};
-ghost use Rattle.least_bound.specs.Asking.{AreAskedAnswering};
-ghost use Rattle.command_words.specs.Jobs.{limits_seen};
+ghost use Rattle.form_search.specs.AdvisorsAsked.{AreCalled};
+ghost use Rattle.least_bound.specs.AdvisorsAsked.{AreAskedAnswering};
+ghost use Rattle.wide_fraction.specs.SearchLimits.{limits_seen};
 ghost use Rattle.design_problem.specs.Text.{row_line, spaced, text};
 ghost use Rattle.text_lines.specs.Lines.{with_ends};
 ghost use Rattle.printed_rows.specs.FittingTexts.{FitText};
@@ -22,8 +22,8 @@ use cut_advisors::Advisor;
 use design_problem::{Answer, CapTree, Problem, Row, Verdict};
 use evidence_text::{TreePart, keeps_answer, push_evidence, text_of_answer};
 use input_files::{FileWords, Stop, View, read_problem};
-use least_total::{Total, TotalProof, least_total};
-use printed_parts::push_count_line;
+use least_total::{Total, TotalEvidence, least_total};
+use line_builder::{push_count_line, push_line};
 use report_writer::Report;
 use std::alloc::Global;
 use text_lines::push_bytes;
@@ -35,7 +35,7 @@ fn begun_text(alloc: Global, answer: &Answer, total: u64) -> Result<Vec<u8>, Out
         text answer.now ++ with_ends (spaced (codes "total" ∷ decimal total ∷ []) ∷ [])) }
 {
     let mut text = Vec::new(alloc);
-    push_bytes(&mut text, b"ospfcost total 1\n")?;
+    push_line(&mut text, b"ospfcost total 1")?;
     let inside = text_of_answer(alloc, answer)?;
     push_bytes(&mut text, &inside)?;
     push_count_line(alloc, &mut text, b"total", total)?;
@@ -47,14 +47,14 @@ fn push_proof(
     alloc: Global,
     text: &mut Vec<u8>,
     cap: u16,
-    proof: TotalProof,
+    proof: TotalEvidence,
 ) -> Result<(), OutOfMemory>
     requires { CanPrintProof cap proof }
     ensures { OnOk result (text.new.items ≡ text.old.items ++ with_ends (shown_lines cap proof)) }
 {
     match proof {
-        TotalProof::Floor => push_bytes(text, b"floor total\n"),
-        TotalProof::Tree { rows, tree } => {
+        TotalEvidence::Floor => push_line(text, b"floor total"),
+        TotalEvidence::Tree { rows, tree } => {
             push_evidence(alloc, text, &rows, TreePart::Proof, &CapTree { cap, tree })
         }
     }
@@ -66,7 +66,7 @@ fn least_text(
     cap: u16,
     answer: &Answer,
     total: u64,
-    proof: TotalProof,
+    proof: TotalEvidence,
 ) -> Result<Vec<u8>, OutOfMemory>
     requires { CanPrintProof cap proof }
     ensures { IfOk result (λ bytes. bytes.items ≡
@@ -74,7 +74,7 @@ fn least_text(
 {
     let mut text = begun_text(alloc, answer, total)?;
     push_proof(alloc, &mut text, cap, proof)?;
-    push_bytes(&mut text, b"end\n")?;
+    push_line(&mut text, b"end")?;
     Ok(text)
 }
 
@@ -99,8 +99,8 @@ fn undecided_text(
 {
     let mut text = begun_text(alloc, answer, range.total)?;
     push_count_line(alloc, &mut text, b"bound", range.bound)?;
-    push_evidence(alloc, &mut text, rows, TreePart::Unfinished, tree)?;
-    push_bytes(&mut text, b"end\n")?;
+    push_evidence(alloc, &mut text, rows, TreePart::Undecided, tree)?;
+    push_line(&mut text, b"end")?;
     Ok(text)
 }
 
@@ -110,7 +110,7 @@ fn least_report(
     cap: u16,
     answer: &Answer,
     total: u64,
-    proof: TotalProof,
+    proof: TotalEvidence,
 ) -> Result<Report, OutOfMemory>
     requires { CanPrintProof cap proof }
     ensures { IfOk result (ReportsFoundAs cap (Least answer.now total proof)) }

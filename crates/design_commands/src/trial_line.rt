@@ -1,11 +1,13 @@
 //! The summary line of a trial.
-ghost use Rattle.std.specs.Prelude.{◌≡◌, ◌++◌, ◌≤◌, IfOk, OnOk, codes};
+ghost use Rattle.std.specs.Prelude.{◌≡◌, [], ◌∷◌, ◌++◌, ◌≤◌, IfOk, OnOk, codes};
 ghost use Rattle.cost_base.specs.Decimal.{decimal};
-ghost use Rattle.design_commands.specs.Trials.{trial_part, costless_line, summary_line};
+ghost use Rattle.design_problem.specs.Text.{spaced};
+ghost use Rattle.line_builder.specs.Words.{with_words};
+ghost use Rattle.design_commands.specs.Trials.{costless_line, summary_line, trial_words};
 
 use cost_base::OutOfMemory;
+use line_builder::LineBuilder;
 use std::alloc::Global;
-use text_lines::{push_bytes, push_number};
 
 /// What makes a trial: how many blocks it has, 1 to 125, and the number from which the sides of the blocks are chosen.
 #[derive(Clone, Copy)]
@@ -17,60 +19,45 @@ pub struct TrialNumbers {
 }
 
 /// Adds a word and a number.
-fn push_field(line: &mut Vec<u8>, word: &[u8], number: u32) -> Result<(), OutOfMemory>
-    ensures { OnOk result (line.new.items ≡ line.old.items ++ word.now ++ decimal number) }
+fn push_field(line: &mut LineBuilder, word: &[u8], number: u32) -> Result<(), OutOfMemory>
+    ensures { OnOk result (line.new ≡ line.old ++ 32 ∷ word.now ++ 32 ∷ decimal number) }
 {
-    push_bytes(line, word)?;
-    push_number(line, u128::from(number))
+    line.word(word)?;
+    line.number(u128::from(number))
 }
 
 /// The first part of the summary line: what the trial is made of, and how large it is.
-fn trial_part(alloc: Global, trial: TrialNumbers) -> Result<Vec<u8>, OutOfMemory>
+fn trial_part(alloc: Global, trial: TrialNumbers) -> Result<LineBuilder, OutOfMemory>
     requires { trial.blocks ≤ 125 }
-    ensures { IfOk result (λ line. line.items ≡ trial_part trial.blocks trial.start) }
+    ensures { IfOk result (λ line. line ≡ spaced (trial_words trial.blocks trial.start)) }
 {
-    let mut line = Vec::new(alloc);
-    push_field(&mut line, b"trial blocks ", trial.blocks)?;
-    push_field(&mut line, b" start ", trial.start)?;
-    push_field(&mut line, b" routers ", 3 * trial.blocks + 1)?;
-    push_field(&mut line, b" interfaces ", 8 * trial.blocks)?;
-    push_field(&mut line, b" requests ", trial.blocks + 1)?;
+    let mut line = LineBuilder::new(alloc, b"trial")?;
+    push_field(&mut line, b"blocks", trial.blocks)?;
+    push_field(&mut line, b"start", trial.start)?;
+    push_field(&mut line, b"routers", 3 * trial.blocks + 1)?;
+    push_field(&mut line, b"interfaces", 8 * trial.blocks)?;
+    push_field(&mut line, b"requests", trial.blocks + 1)?;
     Ok(line)
 }
 
-/// The summary line of a trial, with its LF.
-pub(crate) fn summary_line(
+/// The summary line of a trial up to the greatest cost.
+fn line_of_verdict(
     alloc: Global,
     trial: TrialNumbers,
     verdict: &[u8],
-    greatest: &[u8],
-    total: &[u8],
-) -> Result<Vec<u8>, OutOfMemory>
+) -> Result<LineBuilder, OutOfMemory>
     requires { trial.blocks ≤ 125 }
-    ensures { IfOk result (λ line. line.items ≡ summary_line trial.blocks trial.start verdict.now
-        greatest.now total.now) }
+    ensures { IfOk result (λ line. line ≡ with_words (spaced (trial_words trial.blocks trial.start))
+        (codes "verdict" ∷ verdict.now ∷ codes "greatest" ∷ [])) }
 {
     let mut line = trial_part(alloc, trial)?;
-    push_bytes(&mut line, b" verdict ")?;
-    push_bytes(&mut line, verdict)?;
-    push_bytes(&mut line, b" greatest ")?;
-    push_bytes(&mut line, greatest)?;
-    push_bytes(&mut line, b" total ")?;
-    push_bytes(&mut line, total)?;
-    push_bytes(&mut line, b"\n")?;
+    line.word(b"verdict")?;
+    line.word(verdict)?;
+    line.word(b"greatest")?;
     Ok(line)
 }
 
-/// The digits of a number.
-fn digits_of(alloc: Global, number: u128) -> Result<Vec<u8>, OutOfMemory>
-    ensures { IfOk result (λ digits. digits.items ≡ decimal number) }
-{
-    let mut digits = Vec::new(alloc);
-    push_number(&mut digits, number)?;
-    Ok(digits)
-}
-
-/// The summary line of a trial whose best costs have this greatest cost and this total.
+/// The summary line of a trial whose best costs have this greatest cost and this total, with its LF.
 pub(crate) fn best_line(
     alloc: Global,
     trial: TrialNumbers,
@@ -81,12 +68,14 @@ pub(crate) fn best_line(
     ensures { IfOk result (λ line. line.items ≡ summary_line trial.blocks trial.start
         (codes "optimal") (decimal greatest) (decimal total)) }
 {
-    let greatest = digits_of(alloc, u128::from(greatest))?;
-    let total = digits_of(alloc, total)?;
-    summary_line(alloc, trial, b"optimal", &greatest, &total)
+    let mut line = line_of_verdict(alloc, trial, b"optimal")?;
+    line.number(u128::from(greatest))?;
+    line.word(b"total")?;
+    line.number(total)?;
+    line.ended()
 }
 
-/// The summary line of a trial without best costs.
+/// The summary line of a trial without best costs, with its LF.
 pub(crate) fn costless_line(
     alloc: Global,
     trial: TrialNumbers,
@@ -96,5 +85,9 @@ pub(crate) fn costless_line(
     ensures { IfOk result (λ line. line.items ≡ costless_line trial.blocks trial.start
         verdict.now) }
 {
-    summary_line(alloc, trial, verdict, b"none", b"none")
+    let mut line = line_of_verdict(alloc, trial, verdict)?;
+    line.word(b"none")?;
+    line.word(b"total")?;
+    line.word(b"none")?;
+    line.ended()
 }

@@ -1,4 +1,5 @@
--- The forms and trees of the worked cases, made by hand: square, triangle_three, six, twin and lan. The ring stands apart.
+-- The forms and trees of the worked cases, made by hand: square, triangle_three, six, twin and lan. The ring stands
+-- apart.
 use Rattle.std.proofs.Common.{◌≡◌, ℕ, refl, List, [], ◌∷◌, rules}
 use Rattle.std.specs.Prelude.{pos, negsuc, replicate}
 use Rattle.cost_base.specs.declared.StepName.TheVariants.{Scale}
@@ -10,7 +11,7 @@ use Rattle.area_graph.specs.Area.{Area}
 use Rattle.area_graph.specs.Paths.{IsPathOf}
 use Rattle.area_graph.specs.Costs.{cost, at_costs}
 use Rattle.design_problem.specs.declared.form.Form.{Form}
-use Rattle.design_problem.specs.declared.form.CostBox.{CostBox}
+use Rattle.design_problem.specs.declared.boxes.CostBox.{CostBox}
 use Rattle.design_problem.specs.declared.tree.Side.TheVariants.{Low, High}
 use Rattle.design_problem.specs.declared.tree.Member.TheVariants.{Row as ByRow}
 use Rattle.design_problem.specs.declared.tree.WideAt.{WideAt}

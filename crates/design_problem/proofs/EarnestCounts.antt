@@ -6,7 +6,7 @@ use Rattle.std.proofs.lemmas.List.{length-map}
 use Rattle.cost_base.specs.Lists.{Lacks, NoneTwice}
 use Rattle.area_graph.specs.declared.Point.{Point}
 use Rattle.design_problem.specs.declared.form.Form.{Form}
-use Rattle.design_problem.specs.declared.form.CostBox.{CostBox}
+use Rattle.design_problem.specs.declared.boxes.CostBox.{CostBox}
 use Rattle.design_problem.specs.declared.tree.Side.{Side}
 use Rattle.design_problem.specs.declared.tree.Side.TheVariants.{Low, High}
 use Rattle.design_problem.specs.declared.tree.Entry.{Entry}
@@ -147,5 +147,5 @@ many_cuts accepts top rows box tree earnest =
     let most = earnest_counts accepts top (length box.low) rows (record { box = box; since = [] } ∷ []) tree (fresh (length box.low) box refl, tt) earnest in
     record {
       count = omega arith;
-      unfinished = λ has. let mark = has_mark tree has in omega arith;
+      undecided = λ has. let mark = has_mark tree has in omega arith;
     }

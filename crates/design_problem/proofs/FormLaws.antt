@@ -138,15 +138,15 @@ fit-iff p w kept = (
   λ fit. record {
     within = fit.within;
     rows = λ k d k_in rival path other.
-        (met-iff p.graph w (get_or p.paths k d).path.edges rival
+        (met-iff p.graph w (get_or p.requests k d).path.edges rival
         (λ i e i_in. subst (λ (n : ℕ). IsPriced n (get_or p.graph.edges i e).price) fit.within.low_count
         (kept.priced i e i_in))).1 ((fit.only k d k_in).others rival path other);
   },
   λ meets. record {
     within = meets.within;
     only = λ k d k_in. record {
-      path = kept.paths k d k_in;
-      others = λ rival path other. (met-iff p.graph w (get_or p.paths k d).path.edges rival
+      path = kept.requests k d k_in;
+      others = λ rival path other. (met-iff p.graph w (get_or p.requests k d).path.edges rival
           (λ i e i_in. subst (λ (n : ℕ). IsPriced n (get_or p.graph.edges i e).price) meets.within.low_count
           (kept.priced i e i_in))).0 (meets.rows k d k_in rival path other);
     };

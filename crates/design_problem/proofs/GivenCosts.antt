@@ -7,7 +7,7 @@ use native.Mathlib.Decide.{ℕ_discrete}
 use Rattle.std.proofs.lemmas.Grind.{get_or-set_at, same_number_lists}
 use Rattle.design_problem.specs.declared.answer.CostLine.{CostLine}
 use Rattle.design_problem.specs.declared.problem.VarName.{VarName}
-use Rattle.design_problem.specs.Answers.{Names}
+use Rattle.design_problem.specs.Answers.{CostLinesOf}
 use Rattle.design_problem.specs.GivenCosts.{GivesCost, written, costs_given}
 use Rattle.design_problem.specs.Problems.{DesignProblem}
 
@@ -84,7 +84,7 @@ line_of w (suc k) (x ∷ names) (line ∷ lines) name names_lines k_in is =
 
 -- lines that give each variable one cost give those costs
 pub names_written : (p : DesignProblem) (lines : List CostLine) (w : List ℕ) →
-    ((k : ℕ) → k < length p.low → Any (λ name. name.var ≡ k) p.vars) → length p.low ≡ length w → Names p lines w →
+    ((k : ℕ) → k < length p.low → Any (λ name. name.var ≡ k) p.vars) → length p.low ≡ length w → CostLinesOf w p.vars lines →
     costs_given p lines ≡ w
 names_written p lines w each_named count names_lines =
     let n = length p.low in

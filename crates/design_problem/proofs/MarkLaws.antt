@@ -6,13 +6,14 @@ use Rattle.std.proofs.lemmas.List.Elements.{All-cons, All-tail}
 use Rattle.std.proofs.lemmas.Grind.{get_or-set_at}
 use Rattle.std.proofs.Common.{get_or-set_other}
 use native.Mathlib.Decide.{ℕ_discrete}
+use Rattle.cost_base.proofs.ListLemmas.{contains_later}
 use Rattle.design_problem.specs.declared.tree.Side.{Side}
 use Rattle.design_problem.specs.declared.tree.Side.TheVariants.{Low, High}
 use Rattle.design_problem.specs.declared.tree.Entry.{Entry}
 use Rattle.design_problem.specs.declared.tree.Entry.TheVariants.{Tighten, Split, Halve, Refute, Undone}
 use Rattle.design_problem.specs.declared.marks.Marks.{Marks}
 use Rattle.design_problem.specs.Earnest.{OpenPlace, subplaces}
-use Rattle.design_problem.specs.declared.form.CostBox.{CostBox}
+use Rattle.design_problem.specs.declared.boxes.CostBox.{CostBox}
 use Rattle.design_problem.specs.Boxes.{with_high, with_low}
 use Rattle.design_problem.specs.Trees.{subboxes, tightened}
 use Rattle.design_problem.specs.OpenPlaces.{Growing, first_place, fresh, grown, places_after}
@@ -29,9 +30,6 @@ run_ends entries entry ends = ap last_run (reverse-append entries (entry ∷ [])
 
 contains_head : (run : List (ℕ × Side)) (q : ℕ × Side) → Contains (q ∷ run) q
 contains_head run q = (0, omega arith, refl)
-
-contains_tail : (run : List (ℕ × Side)) (p q : ℕ × Side) → Contains run q → Contains (p ∷ run) q
-contains_tail run p q has = (suc has.0, omega (arith, has.1), has.2)
 
 contains_other : (run : List (ℕ × Side)) (p q : ℕ × Side) → (p ≡ q → ⊥) → Contains (p ∷ run) q → Contains run q
 contains_other run p q other has = go has.0 has.1 has.2
@@ -52,7 +50,7 @@ set_marks side begun run marks var count above are v v_in =
           (λ less. subst (λ (u : ℕ). Contains ((var, side) ∷ run) (u, side)) (sym same) (contains_head run (var, side)), λ has. rw here above)
       | no other ↦
           let here : slice_index (slice_set marks var count) v ≡ slice_index marks v = get_or-set_other marks var v count 0 other in (
-            λ less. contains_tail run (var, side) (v, side) ((are v known).0 (rw here at less)),
+            λ less. contains_later {X = ℕ × Side} (var, side) run (v, side) ((are v known).0 (rw here at less)),
             λ has. rw here ((are v known).1 (contains_other run (var, side) (v, side) (λ e. other (sym (ap (λ (p : ℕ × Side). p.0) e))) has)),
           )
     ]
@@ -61,7 +59,7 @@ set_marks side begun run marks var count above are v v_in =
 kept_marks : (side other : Side) (begun : ℕ) (run : List (ℕ × Side)) (marks : List ℕ) (var : ℕ) → (other ≡ side → ⊥) →
     AreSideMarks side begun run marks → AreSideMarks side begun ((var, other) ∷ run) marks
 kept_marks side other begun run marks var apart are v v_in = (
-  λ less. contains_tail run (var, other) (v, side) ((are v v_in).0 less),
+  λ less. contains_later {X = ℕ × Side} (var, other) run (v, side) ((are v v_in).0 less),
   λ has. (are v v_in).1 (contains_other run (var, other) (v, side) (λ e. apart (ap (λ (p : ℕ × Side). p.1) e)) has),
 )
 

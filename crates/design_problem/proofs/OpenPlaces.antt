@@ -5,7 +5,7 @@ use Rattle.std.specs.List.{AllByRecursion}
 use Rattle.cost_base.proofs.ListLemmas.{each_append}
 use Rattle.area_graph.specs.declared.Point.{Point}
 use Rattle.design_problem.specs.declared.form.Form.{Form}
-use Rattle.design_problem.specs.declared.form.CostBox.{CostBox}
+use Rattle.design_problem.specs.declared.boxes.CostBox.{CostBox}
 use Rattle.design_problem.specs.declared.tree.Entry.{Entry}
 use Rattle.design_problem.specs.declared.tree.Entry.TheVariants.{Tighten, Split, Halve, Refute, Undone}
 use Rattle.design_problem.specs.Trees.{Sound, SoundAt, IsSoundTree, IsClosed, entry_count, is_undone, subboxes}
@@ -31,7 +31,8 @@ opens_ends accepts top forms [] (e ∷ entries) opens = absurd opens
 opens_ends accepts top forms (p ∷ places) (e ∷ entries) opens =
     (opens.0, opens.1, opens_ends accepts top forms (subplaces p e ++ places) entries opens.2)
 
-earnest_undones : (accepts : Point → Type 0) (top : ℕ) (forms : List Form) (places : List OpenPlace) → Earnest accepts top forms places (undones (length places))
+earnest_undones : (accepts : Point → Type 0) (top : ℕ) (forms : List Form) (places : List OpenPlace) →
+    Earnest accepts top forms places (undones (length places))
 earnest_undones accepts top forms [] = tt
 earnest_undones accepts top forms (p ∷ places) = (tt, tt, earnest_undones accepts top forms places)
 

@@ -62,12 +62,13 @@ pub path-known : (g : Area) (ends : Ends) (es : List ℕ) → IsPathOf g ends es
 path-known g ends es path = joined_known g ends.start es ends.end path.simple.joins
 
 -- a route's request is one of the list, and the route is a path of it
-pub record RequestOf (g : Area) (paths : List Request) (k : ℕ) (d : Request) (es : List ℕ) : Type 0 where
-  pub within : k < length paths
-  pub is_there : slice_get paths k ≡ Some (get_or paths k d)
-  pub path : IsPathOf g (request_ends (get_or paths k d)) es
+pub record RequestOf (g : Area) (requests : List Request) (k : ℕ) (d : Request) (es : List ℕ) : Type 0 where
+  pub within : k < length requests
+  pub is_there : slice_get requests k ≡ Some (get_or requests k d)
+  pub path : IsPathOf g (request_ends (get_or requests k d)) es
 
-pub request_of_route : (g : Area) (paths : List Request) (k : ℕ) (d : Request) (es : List ℕ) → IsRouteOf g (slice_get paths k) es → RequestOf g paths k d es
+pub request_of_route : (g : Area) (requests : List Request) (k : ℕ) (d : Request) (es : List ℕ) → IsRouteOf g (slice_get requests k) es →
+    RequestOf g requests k d es
 request_of_route g [] k d es route = absurd route
 request_of_route g (r ∷ rs) zero d es route = record { within = omega arith; is_there = refl; path = route }
 request_of_route g (r ∷ rs) (suc k) d es route =

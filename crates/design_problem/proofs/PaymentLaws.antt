@@ -15,7 +15,7 @@ use Rattle.area_graph.specs.declared.Price.{Price}
 use Rattle.area_graph.specs.declared.Price.TheVariants.{Fixed, Var, Zero}
 use Rattle.design_problem.specs.declared.balance.Balance.{Balance}
 use Rattle.design_problem.specs.declared.form.Term.{Term}
-use Rattle.design_problem.specs.declared.tally.Payment.{Payment}
+use Rattle.design_problem.specs.declared.payments.Payment.{Payment}
 use Rattle.design_problem.specs.Forms.{AreTerms, coefficient_of, form_by, term_of}
 use Rattle.design_problem.specs.Payments.{IsTurnedTo, balance_of, one_payment, payment_of, payments_of, times_paid, times_saved}
 use Rattle.design_problem.specs.Rows.{fixed_cost, form_between, is_var, uses}
@@ -85,13 +85,15 @@ paths_balance g rival wanted ps moved v =
     let paid : times_paid ps v ≡ uses g rival v =
     sum_by-IsPermutation (λ p. cond (p.by_rival && (p.var == v)) 1 0) both ps moved
     ∙ sum_by-append (λ p. cond (p.by_rival && (p.var == v)) 1 0) (payments_of g true rival) (payments_of g false wanted)
-    ∙ ap (λ n. times_paid (payments_of g true rival) v + n) (counted_of g (λ p. p.by_rival && (p.var == v)) false (λ q. false) (none_paid v) wanted ∙ none_counted wanted)
+    ∙ ap (λ n. times_paid (payments_of g true rival) v + n) (counted_of g (λ p. p.by_rival && (p.var == v)) false (λ q. false) (none_paid v) wanted ∙
+    none_counted wanted)
     ∙ add-zero (times_paid (payments_of g true rival) v)
     ∙ counted_of g (λ p. p.by_rival && (p.var == v)) true (is_var v) (own_paid v) rival in
     let saved : times_saved ps v ≡ uses g wanted v =
     sum_by-IsPermutation (λ p. cond (not p.by_rival && (p.var == v)) 1 0) both ps moved
     ∙ sum_by-append (λ p. cond (not p.by_rival && (p.var == v)) 1 0) (payments_of g true rival) (payments_of g false wanted)
-    ∙ ap (λ n. n + times_saved (payments_of g false wanted) v) (counted_of g (λ p. not p.by_rival && (p.var == v)) true (λ q. false) (none_saved v) rival ∙ none_counted rival)
+    ∙ ap (λ n. n + times_saved (payments_of g false wanted) v) (counted_of g (λ p. not p.by_rival && (p.var == v)) true (λ q. false) (none_saved v) rival ∙
+    none_counted rival)
     ∙ zero-add (times_saved (payments_of g false wanted) v)
     ∙ counted_of g (λ p. not p.by_rival && (p.var == v)) false (is_var v) (own_saved v) wanted in
     ap (λ n. pos n -ℤ pos (times_saved ps v)) paid ∙ ap (λ n. pos (uses g rival v) -ℤ pos n) saved
@@ -190,7 +192,7 @@ else_end [] w v s other = other_term w v s other
 else_end (t ∷ ts) w v s other = ap (λ z. cond (t.var == v) t.coefficient z) (else_end ts w v s other)
 
 -- terms of earlier variables, and one at the end
-some_or_none : (s : ℤ) → (s ≡ pos 0) ⊎ (s ≢ pos 0)
+pub some_or_none : (s : ℤ) → (s ≡ pos 0) ⊎ (s ≢ pos 0)
 some_or_none (pos zero) = inl refl
 some_or_none (pos (suc n)) = inr (λ e. let f : ⊥ = omega (arith, ints, e) in f)
 some_or_none (negsuc n) = inr (λ e. let f : ⊥ = omega (arith, ints, e) in f)
@@ -217,8 +219,8 @@ more_terms m w s ts are up within =
     earlier : All (λ (t : Term). t.var < m) ts
     earlier = All-weaker (λ (t : Term). t.var < w) (λ (t : Term). t.var < m) (λ t before. omega arith) ts are.known
 
--- The terms and the balance of the first payments, which stand in the order of their variables: with the term of the balance
--- they tell how much more often each variable is paid by the rival.
+-- The terms and the balance of the first payments, which stand in the order of their variables: with the term of the
+-- balance they tell how much more often each variable is paid by the rival.
 pub record AreBalanced (n : ℕ) (ts : List Term) (balance : Balance) (ps : List Payment) : Type 0 where
   pub terms : AreTerms balance.var ts
   pub within : balance.var ≤ n

@@ -7,7 +7,7 @@ use Rattle.std.proofs.lemmas.Int.{ints}
 use Rattle.area_graph.specs.Area.{Area}
 use Rattle.area_graph.specs.Paths.{IsPathOf}
 use Rattle.design_problem.specs.declared.form.Form.{Form}
-use Rattle.design_problem.specs.declared.form.CostBox.{CostBox}
+use Rattle.design_problem.specs.declared.boxes.CostBox.{CostBox}
 use Rattle.design_problem.specs.declared.form.Row.{Row}
 use Rattle.design_problem.specs.declared.problem.Request.{Request}
 use Rattle.design_problem.specs.declared.tree.Entry.{Entry}
@@ -28,13 +28,13 @@ use Rattle.design_problem.proofs.FormLaws.{fit-iff}
 use Rattle.design_problem.proofs.TreeLaws.{closed_tree_none}
 
 -- a rival's request is one of the list, and the rival is another path of it
-record RivalAt (g : Area) (paths : List Request) (k : ℕ) (d : Request) (es : List ℕ) : Type 0 where
-  within : k < length paths
-  is_there : slice_get paths k ≡ Some (get_or paths k d)
-  path : IsPathOf g (request_ends (get_or paths k d)) es
-  other : es ≢ (get_or paths k d).path.edges
+record RivalAt (g : Area) (requests : List Request) (k : ℕ) (d : Request) (es : List ℕ) : Type 0 where
+  within : k < length requests
+  is_there : slice_get requests k ≡ Some (get_or requests k d)
+  path : IsPathOf g (request_ends (get_or requests k d)) es
+  other : es ≢ (get_or requests k d).path.edges
 
-request_of_rival : (g : Area) (paths : List Request) (k : ℕ) (d : Request) (es : List ℕ) → IsRivalOf g (slice_get paths k) es → RivalAt g paths k d es
+request_of_rival : (g : Area) (requests : List Request) (k : ℕ) (d : Request) (es : List ℕ) → IsRivalOf g (slice_get requests k) es → RivalAt g requests k d es
 request_of_rival g [] k d es rival = absurd rival
 request_of_rival g (r ∷ rs) zero d es rival = record { within = omega arith; is_there = refl; path = rival.0; other = rival.1 }
 request_of_rival g (r ∷ rs) (suc k) d es rival =
@@ -44,11 +44,11 @@ request_of_rival g (r ∷ rs) (suc k) d es rival =
 -- the form of a row is at least 0 at fit costs
 row_met : (p : DesignProblem) (w : List ℕ) (row : Row) → IsProblem p → IsFit p w → IsRow p row → pos 0 ≤ℤ value_for_costs (form_of_row p row) w
 row_met p w row kept fit is_row =
-    let found = request_of_rival p.graph p.paths row.request no_request row.rival is_row in
+    let found = request_of_rival p.graph p.requests row.request no_request row.rival is_row in
     let meets = (fit-iff p w kept).0 fit in
     let met = meets.rows row.request no_request found.within row.rival found.path found.other in
     let counted = subst (λ (n : ℕ).
-    pos 0 ≤ℤ value_for_costs (form_between p.graph n (get_or p.paths row.request no_request).path.edges row.rival) w)
+    pos 0 ≤ℤ value_for_costs (form_between p.graph n (get_or p.requests row.request no_request).path.edges row.rival) w)
     (sym fit.within.low_count) met in
     subst (λ (r : Option Request). pos 0 ≤ℤ value_for_costs (form_between p.graph (length p.low) (path_edges r) row.rival) w) (sym found.is_there) counted
 

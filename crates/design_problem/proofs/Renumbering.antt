@@ -7,7 +7,7 @@ use Rattle.area_graph.specs.declared.Point.{Point}
 use Rattle.cost_base.specs.declared.StepName.{StepName}
 use Rattle.whole_numbers.specs.Fractions.{Fraction, plus, whole, sum_of}
 use Rattle.design_problem.specs.declared.form.Form.{Form}
-use Rattle.design_problem.specs.declared.form.CostBox.{CostBox}
+use Rattle.design_problem.specs.declared.boxes.CostBox.{CostBox}
 use Rattle.design_problem.specs.declared.tree.Side.{Side}
 use Rattle.design_problem.specs.declared.tree.Member.{Member}
 use Rattle.design_problem.specs.declared.tree.Member.TheVariants.{Low, High, Row}
@@ -18,11 +18,13 @@ use Rattle.design_problem.specs.Forms.{added, form_at, no_form, weighted}
 use Rattle.design_problem.specs.Boxes.{Refutes, greatest}
 use Rattle.design_problem.specs.Basis.{entry, AreEntries, HasEntries, IsFormOf, IsTable, forms_of, low_member, member_form}
 use Rattle.cost_base.specs.declared.StepName.TheVariants.{Add, Mul, Lcm, Scale}
-use Rattle.design_problem.specs.Steps.{IsPivot, IsTableStep, row_product, row_sum, pivot_quotient, pivot_inverse, pivot_product, pivot_inverse_product, pivot_difference, corner_multiple, corner_scale, multiple, multiplier_product, multiplier_sum, multiplier_scale, IsStuck, IsStepTooWide, column_parts, denominators, lcm_of, made_whole, refuting_multipliers, own_multiplier, start_of_sum, terms, two_to_27}
-use Rattle.design_problem.specs.Trees.{SoundAt, TightensAt, removed}
+use Rattle.design_problem.specs.Steps.{IsPivot, IsTableStep, row_product, row_sum, pivot_quotient, pivot_inverse, pivot_product, pivot_inverse_product, pivot_difference, corner_multiple, corner_scale, multiple, multiplier_product, multiplier_sum, multiplier_scale, IsRefutingForm, IsStepTooWide, column_parts, denominators, lcm_of, made_whole, refuting_multipliers, own_multiplier, start_of_sum, terms, two_to_27}
+use Rattle.design_problem.specs.Trees.{SoundAt, TightensAt, removed, Sound, subboxes}
 use Rattle.design_problem.specs.Earnest.{OpenPlace, Earnest, EarnestAt, at_bound, subplaces}
 use Rattle.design_problem.specs.OpenPlaces.{LeavesPlacesOpen}
-use Rattle.design_problem.specs.Renumbering.{IsRenumbering, renumbered, renumbered_member, renumbered_part, renumbered_wide}
+use Rattle.design_problem.specs.Renumbering.{IsRenumbering, renumbered, renumbered_member, renumbered_multiplier, renumbered_wide}
+use Rattle.design_problem.specs.SearchTrees.{IsSearchTree}
+use Rattle.design_problem.proofs.OpenPlaces.{earnest_opens, opens_ends}
 
 renumbered_form : (number : ℕ → ℕ) (old new : List Form) (n : ℕ) (box : CostBox) (member : Member) →
     IsRenumbering number old new → IsFormOf box old member →
@@ -119,8 +121,8 @@ renumbered_step number old new box basis lows name left right keeps are step = g
     pivots : (es : List Fraction) (j : ℕ) → IsPivot basis es j → IsPivot (map (renumbered_member number) basis) es j
     pivots es j pivot = record { column = (pivot.column.0, omega (arith, counted, pivot.column.1)); below = pivot.below; above = pivot.above }
 
-    stuck : (es : List Fraction) → IsStuck basis es → IsStuck (map (renumbered_member number) basis) es
-    stuck es is = record { below = is.below; none_above = λ k from to. is.none_above k from (omega (arith, counted)) }
+    refuting : (es : List Fraction) → IsRefutingForm basis es → IsRefutingForm (map (renumbered_member number) basis) es
+    refuting es is = record { below = is.below; none_above = λ k from to. is.none_above k from (omega (arith, counted)) }
 
     has : (member : Member) (es : List Fraction) → IsFormOf box old member → HasEntries box old basis member es →
         HasEntries box new (map (renumbered_member number) basis) (renumbered_member number member) es
@@ -155,26 +157,28 @@ renumbered_step number old new box basis lows name left right keeps are step = g
         (has r es is entries) (pivots es j pivot) (known f f_is) (has f fs f_is f_entries) (within place small)
     go name left right (corner_multiple k d gets) = corner_multiple k d gets
     go name left right corner_scale = corner_scale
-    go name left right (multiple r es k d is entries is_stuck gets) =
+    go name left right (multiple r es k d is entries is_refuting gets) =
         let P : List Fraction → Type 0 = λ ms. slice_get (denominators ms) k ≡ Some d →
         IsTableStep box new (map (renumbered_member number) basis) lows Lcm
         (whole (pos (lcm_of (take k (denominators ms))))) (whole (pos d)) in
-        subst P (same_multipliers number basis r es) (multiple (renumbered_member number r) es k d (known r is) (has r es is entries) (stuck es is_stuck)) gets
-    go name left right (multiplier_product r es k q is entries is_stuck gets) =
+        subst P (same_multipliers number basis r es) (multiple (renumbered_member number r) es k d (known r is) (has r es is entries) (refuting es is_refuting))
+        gets
+    go name left right (multiplier_product r es k q is entries is_refuting gets) =
         let P : List Fraction → Type 0 = λ ms. slice_get ms k ≡ Some q →
         IsTableStep box new (map (renumbered_member number) basis) lows Mul q (whole (pos (lcm_of (denominators ms)))) in
         subst P (same_multipliers number basis r es)
         (multiplier_product (renumbered_member number r) es k q (known r is) (has r es is entries)
-        (stuck es is_stuck)) gets
-    go name left right (multiplier_sum r es k next is entries is_stuck gets) =
+        (refuting es is_refuting)) gets
+    go name left right (multiplier_sum r es k next is entries is_refuting gets) =
         let P : List Fraction → Type 0 = λ ms. slice_get (made_whole ms) k ≡ Some next →
         IsTableStep box new (map (renumbered_member number) basis) lows Add (sum_of (take k (made_whole ms))) next in
         subst P (same_multipliers number basis r es)
         (multiplier_sum (renumbered_member number r) es k next (known r is) (has r es is entries)
-        (stuck es is_stuck)) gets
-    go name left right (multiplier_scale r es is entries is_stuck) =
+        (refuting es is_refuting)) gets
+    go name left right (multiplier_scale r es is entries is_refuting) =
         let P : List Fraction → Type 0 = λ ms. IsTableStep box new (map (renumbered_member number) basis) lows Scale (sum_of (made_whole ms)) two_to_27 in
-        subst P (same_multipliers number basis r es) (multiplier_scale (renumbered_member number r) es (known r is) (has r es is entries) (stuck es is_stuck))
+        subst P (same_multipliers number basis r es) (multiplier_scale (renumbered_member number r) es (known r is) (has r es is entries)
+        (refuting es is_refuting))
 
 -- a step that is too wide stays one
 pub renumbered_too_wide : (number : ℕ → ℕ) (old new : List Form) (top : ℕ) (box : CostBox) (wide : WideAt) →
@@ -201,7 +205,7 @@ renumbered_tightens number old new box side var value row keeps tightens = recor
 }
 
 same_weighted : (number : ℕ → ℕ) (old new : List Form) (parts : List (ℕ × ℕ)) → IsRenumbering number old new →
-    All (λ part. part.0 < length old) parts → weighted new (map (renumbered_part number) parts) ≡ weighted old parts
+    All (λ part. part.0 < length old) parts → weighted new (map (renumbered_multiplier number) parts) ≡ weighted old parts
 same_weighted number old new [] keeps known = refl
 same_weighted number old new (part ∷ parts) keeps known =
     let rest = same_weighted number old new parts keeps (λ k d k_in. known (suc k) d (omega (arith, k_in))) in
@@ -210,19 +214,19 @@ same_weighted number old new (part ∷ parts) keeps known =
       constant = (pos part.1 *ℤ f.constant) +ℤ r.constant;
       coefficients = added (map (λ c. pos part.1 *ℤ c) f.coefficients) r.coefficients;
     } in
-    ap (λ (f : Form). P f (weighted new (map (renumbered_part number) parts))) here ∙ ap (P (form_at old part.0)) rest
+    ap (λ (f : Form). P f (weighted new (map (renumbered_multiplier number) parts))) here ∙ ap (P (form_at old part.0)) rest
 
-same_sum : (number : ℕ → ℕ) (parts : List (ℕ × ℕ)) → sum_by (λ part. part.1) (map (renumbered_part number) parts) ≡ sum_by (λ part. part.1) parts
+same_sum : (number : ℕ → ℕ) (parts : List (ℕ × ℕ)) → sum_by (λ part. part.1) (map (renumbered_multiplier number) parts) ≡ sum_by (λ part. part.1) parts
 same_sum number [] = refl
 same_sum number (part ∷ parts) =
     let rest = same_sum number parts in
     rw (
-      sum_by-cons (λ (p : ℕ × ℕ). p.1) (renumbered_part number part) (map (renumbered_part number) parts),
+      sum_by-cons (λ (p : ℕ × ℕ). p.1) (renumbered_multiplier number part) (map (renumbered_multiplier number) parts),
       sum_by-cons (λ (p : ℕ × ℕ). p.1) part parts,
     ) (omega arith)
 
-all_parts : (number : ℕ → ℕ) (P Q : ℕ × ℕ → Type 0) → ((part : ℕ × ℕ) → P part → Q (renumbered_part number part)) →
-    (parts : List (ℕ × ℕ)) → All P parts → All Q (map (renumbered_part number) parts)
+all_parts : (number : ℕ → ℕ) (P Q : ℕ × ℕ → Type 0) → ((part : ℕ × ℕ) → P part → Q (renumbered_multiplier number part)) →
+    (parts : List (ℕ × ℕ)) → All P parts → All Q (map (renumbered_multiplier number) parts)
 all_parts number P Q moves [] all k d k_in = absurd (omega arith)
 all_parts number P Q moves (part ∷ parts) all zero d k_in = moves part (all 0 part (omega arith))
 all_parts number P Q moves (part ∷ parts) all (suc k) d k_in =
@@ -230,7 +234,7 @@ all_parts number P Q moves (part ∷ parts) all (suc k) d k_in =
 
 -- a Refute stays one
 pub renumbered_refutes : (number : ℕ → ℕ) (old new : List Form) (parts : List (ℕ × ℕ)) (box : CostBox) →
-    IsRenumbering number old new → Refutes old parts box → Refutes new (map (renumbered_part number) parts) box
+    IsRenumbering number old new → Refutes old parts box → Refutes new (map (renumbered_multiplier number) parts) box
 renumbered_refutes number old new parts box keeps refutes = record {
   rows = all_parts number (λ part. part.0 < length old) (λ part. part.0 < length new) (λ part known. keeps.known part.0 known) parts refutes.rows;
   positive = all_parts number (λ part. 0 < part.1) (λ part. 0 < part.1) (λ part some. some) parts refutes.positive;
@@ -309,7 +313,7 @@ same_members : (basis : List Member) → map (renumbered_member (λ row. row)) b
 same_members [] = refl
 same_members (member ∷ basis) = cc (same_member member, same_members basis)
 
-same_part_list : (parts : List (ℕ × ℕ)) → map (renumbered_part (λ row. row)) parts ≡ parts
+same_part_list : (parts : List (ℕ × ℕ)) → map (renumbered_multiplier (λ row. row)) parts ≡ parts
 same_part_list [] = refl
 same_part_list (part ∷ parts) = ap (λ (ps : List (ℕ × ℕ)). part ∷ ps) (same_part_list parts)
 
@@ -336,7 +340,30 @@ opens_kept accepts top forms more places entries left opens =
     (renumbered_opens (λ row. row) forms (forms ++ more) accepts top places entries left (forms_kept forms more) opens)
 
 -- and a step that is too wide
-pub too_wide_kept : (top : ℕ) (box : CostBox) (forms more : List Form) (wide : WideAt) → IsStepTooWide top box forms wide → IsStepTooWide top box (forms ++ more) wide
+pub too_wide_kept : (top : ℕ) (box : CostBox) (forms more : List Form) (wide : WideAt) → IsStepTooWide top box forms wide →
+    IsStepTooWide top box (forms ++ more) wide
 too_wide_kept top box forms more wide too_wide =
     subst (IsStepTooWide top box (forms ++ more)) (same_wide wide)
     (renumbered_too_wide (λ row. row) forms (forms ++ more) top box wide (forms_kept forms more) too_wide)
+
+-- a search's tree too
+pub tree_more : (accepts : Point → Type 0) (top : ℕ) (forms more : List Form) (box : CostBox) (tree : List Entry) →
+    IsSearchTree accepts top forms box tree → IsSearchTree accepts top (forms ++ more) box tree
+tree_more accepts top forms more box tree is =
+    let start : List OpenPlace = record { box = box; since = [] } ∷ [] in
+    record {
+      earnest = opens_ends accepts top (forms ++ more) start tree
+          (opens_kept accepts top forms more start tree [] (earnest_opens accepts top forms start tree is.earnest));
+      last = is.last;
+      short = is.short;
+    }
+
+-- and a sound tree
+pub sound_more : (forms more : List Form) (boxes : List CostBox) (entries : List Entry) → Sound forms boxes entries → Sound (forms ++ more) boxes entries
+sound_more forms more [] [] sound = tt
+sound_more forms more (box ∷ boxes) [] sound = absurd sound
+sound_more forms more [] (e ∷ entries) sound = absurd sound
+sound_more forms more (box ∷ boxes) (e ∷ entries) sound = (
+  subst (SoundAt (forms ++ more) box) (same_entry e) (renumbered_sound (λ row. row) forms (forms ++ more) box e (forms_kept forms more) sound.0),
+  sound_more forms more (subboxes box e ++ boxes) entries sound.1,
+)

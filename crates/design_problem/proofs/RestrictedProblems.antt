@@ -34,10 +34,10 @@ chosen_keep P requests members each known k d k_in =
     subst P (sym (get_or-map (request_at requests) members k 0 d within)) (each (get_or members k 0) no_request (known k 0 within))
 
 pub restricted_kept : (p : DesignProblem) (members : List ℕ) → IsProblem p → IsStrictlyIncreasing members →
-    All (λ m. m < length p.paths) members → IsProblem (restricted p members)
+    All (λ m. m < length p.requests) members → IsProblem (restricted p members)
 restricted_kept p members kept rising known = record {
-  paths = chosen_keep (λ r. IsPathOf p.graph (request_ends r) r.path.edges) p.paths members kept.paths known;
-  excluded = chosen_keep (λ r. MayBeExcluded p.graph r.excluded) p.paths members kept.excluded known;
+  requests = chosen_keep (λ r. IsPathOf p.graph (request_ends r) r.path.edges) p.requests members kept.requests known;
+  excluded = chosen_keep (λ r. MayBeExcluded p.graph r.excluded) p.requests members kept.excluded known;
   low_count = kept.low_count;
   var_count = kept.var_count;
   ordered = kept.ordered;
@@ -45,12 +45,13 @@ restricted_kept p members kept rising known = record {
   named = kept.named;
   each_named = kept.each_named;
   words = kept.words;
-  path_count = let few = increasing-le (length p.paths) members rising known in omega (arith, kept.path_count, length-map members (request_at p.paths));
+  request_count = let few = increasing-le (length p.requests) members rising known in
+      omega (arith, kept.request_count, length-map members (request_at p.requests));
 }
 
 -- a problem is its parts
 pub same_problem : (g h : Area) (vs us : List VarName) (ls ms hs ks : List ℕ) (rs qs : List Request) → g ≡ h → vs ≡ us →
     ls ≡ ms → hs ≡ ks → rs ≡ qs →
-    (let p : DesignProblem = record { graph = g; vars = vs; low = ls; high = hs; paths = rs } in p)
-    ≡ (let q : DesignProblem = record { graph = h; vars = us; low = ms; high = ks; paths = qs } in q)
-same_problem g h vs us ls ms hs ks rs qs a b c d e = λ i. record { graph = a i; vars = b i; low = c i; high = d i; paths = e i }
+    (let p : DesignProblem = record { graph = g; vars = vs; low = ls; high = hs; requests = rs } in p)
+    ≡ (let q : DesignProblem = record { graph = h; vars = us; low = ms; high = ks; requests = qs } in q)
+same_problem g h vs us ls ms hs ks rs qs a b c d e = λ i. record { graph = a i; vars = b i; low = c i; high = d i; requests = e i }

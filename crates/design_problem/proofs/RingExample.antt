@@ -7,7 +7,7 @@ use Rattle.area_graph.specs.declared.Price.TheVariants.{Fixed, Var}
 use Rattle.area_graph.specs.Area.{Area}
 use Rattle.whole_numbers.specs.Fractions.{Fraction, whole}
 use Rattle.design_problem.specs.declared.form.Form.{Form}
-use Rattle.design_problem.specs.declared.form.CostBox.{CostBox}
+use Rattle.design_problem.specs.declared.boxes.CostBox.{CostBox}
 use Rattle.design_problem.specs.declared.tree.Member.{Member}
 use Rattle.design_problem.specs.declared.tree.Member.TheVariants.{Low as ByLow, Row as ByRow}
 use Rattle.design_problem.specs.declared.tree.Side.TheVariants.{Low, High}

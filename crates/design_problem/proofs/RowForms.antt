@@ -16,21 +16,21 @@ route_of_rival g (Some r) es rival = rival.0
 
 -- the wanted path and the rival of a row, as edges that code has read
 pub record RowPaths (p : DesignProblem) (row : Row) (d : Request) (wanted rival : List ℕ) : Type 0 where
-  pub wanted_path : IsPathOf p.graph (request_ends (get_or p.paths row.request d)) wanted
-  pub rival_path : IsPathOf p.graph (request_ends (get_or p.paths row.request d)) rival
+  pub wanted_path : IsPathOf p.graph (request_ends (get_or p.requests row.request d)) wanted
+  pub rival_path : IsPathOf p.graph (request_ends (get_or p.requests row.request d)) rival
   pub form : form_between p.graph (length p.low) wanted rival ≡ form_of_row p row
 
 pub row_paths : (p : DesignProblem) (row : Row) (d : Request) (wanted rival : List ℕ) → IsProblem p → HasRoute p row →
-    wanted ≡ (get_or p.paths row.request d).path.edges → rival ≡ row.rival → RowPaths p row d wanted rival
+    wanted ≡ (get_or p.requests row.request d).path.edges → rival ≡ row.rival → RowPaths p row d wanted rival
 row_paths p row d wanted rival kept route is_wanted is_rival =
-    let found = request_of_route p.graph p.paths row.request d row.rival route in
-    let r = get_or p.paths row.request d in
-    let here : wanted ≡ path_edges (slice_get p.paths row.request) = is_wanted ∙ sym (ap path_edges found.is_there) in
+    let found = request_of_route p.graph p.requests row.request d row.rival route in
+    let r = get_or p.requests row.request d in
+    let here : wanted ≡ path_edges (slice_get p.requests row.request) = is_wanted ∙ sym (ap path_edges found.is_there) in
     record {
-      wanted_path = subst (λ (es : List ℕ). IsPathOf p.graph (request_ends (get_or p.paths row.request d)) es)
-          (sym is_wanted) (kept.paths row.request d found.within);
-      rival_path = subst (λ (es : List ℕ). IsPathOf p.graph (request_ends (get_or p.paths row.request d)) es) (sym is_rival) found.path;
+      wanted_path = subst (λ (es : List ℕ). IsPathOf p.graph (request_ends (get_or p.requests row.request d)) es)
+          (sym is_wanted) (kept.requests row.request d found.within);
+      rival_path = subst (λ (es : List ℕ). IsPathOf p.graph (request_ends (get_or p.requests row.request d)) es) (sym is_rival) found.path;
       form = ap (λ (es : List ℕ). form_between p.graph (length p.low) es rival) here
-          ∙ ap (λ (es : List ℕ). form_between p.graph (length p.low) (path_edges (slice_get p.paths row.request))
+          ∙ ap (λ (es : List ℕ). form_between p.graph (length p.low) (path_edges (slice_get p.requests row.request))
           es) is_rival;
     }

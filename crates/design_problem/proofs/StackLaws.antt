@@ -1,9 +1,10 @@
--- One box and a stack of the ends that were changed tell the open boxes: changes that are put onto the stack, and put back.
+-- One box and a stack of the ends that were changed tell the open boxes: changes that are put onto the stack, and put
+-- back.
 use Rattle.std.proofs.Common.{◌≡◌, ℕ, ◌+◌, sym, ◌∙◌, ap, subst, List, [], ◌∷◌, ◌++◌, length, reverse}
 use Rattle.std.specs.Prelude.{Some, slice_index, slice_set, All}
 use Rattle.std.proofs.lemmas.List.{reverse-append, set-get_or, set-set}
 use Rattle.std.proofs.lemmas.List.Elements.{All-pop, All-push}
-use Rattle.design_problem.specs.declared.form.CostBox.{CostBox}
+use Rattle.design_problem.specs.declared.boxes.CostBox.{CostBox}
 use Rattle.design_problem.specs.declared.open_boxes.Change.{Change}
 use Rattle.design_problem.specs.declared.open_boxes.Change.TheVariants.{Low, High, Second}
 use Rattle.design_problem.specs.Boxes.{with_low, with_high}

@@ -240,7 +240,8 @@ agree_from a (suc n) f g same =
     ap (λ z. z ∷ map f (numbers_from (a + 1) n)) (same a (omega arith))
     ∙ ap (λ zs. g a ∷ zs) (agree_from (a + 1) n f g (λ v v_in. same v (omega arith)))
 
--- terms that rise, each of one of the variables and with a coefficient that isn't 0, are those of the coefficients they tell
+-- terms that rise, each of one of the variables and with a coefficient that isn't 0, are those of the coefficients they
+-- tell
 terms_are_from : (first n : ℕ) (ts : List Term) → All (IsWithin first n) ts → AllPairs (λ t u. t.var < u.var) ts →
     All (λ t. t.coefficient ≢ pos 0) ts → terms_from first (map (coefficient_of ts) (numbers_from first n)) ≡ ts
 terms_are_from first zero [] within rising some = refl

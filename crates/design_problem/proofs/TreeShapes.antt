@@ -2,7 +2,7 @@
 use Rattle.std.proofs.Common.{◌≡◌, ℕ, zero, suc, ◌+◌, ◌<◌, refl, sym, ◌∙◌, ap, subst, List, [], ◌∷◌, ◌++◌, append-nil, append_assoc, length, arith, ◌↔◌}
 use Rattle.std.specs.Prelude.{Contains, slice_index_or}
 use Rattle.design_problem.specs.declared.form.Form.{Form}
-use Rattle.design_problem.specs.declared.form.CostBox.{CostBox}
+use Rattle.design_problem.specs.declared.boxes.CostBox.{CostBox}
 use Rattle.design_problem.specs.declared.tree.Entry.{Entry}
 use Rattle.design_problem.specs.declared.tree.Entry.TheVariants.{Tighten, Split, Halve, Refute, Undone}
 use Rattle.design_problem.specs.Boxes.{IsBox, with_low, with_high}
@@ -146,7 +146,7 @@ few_entries n forms box tree kept sound =
     let few = tree_entries-le n forms box tree kept sound in
     record {
       count = omega arith;
-      unfinished = λ has. let mark = has_mark tree has in omega arith;
+      undecided = λ has. let mark = has_mark tree has in omega arith;
     }
 
 -- a preorder decides its tree, and where it ends

@@ -9,11 +9,12 @@ use Rattle.design_problem.specs.declared.answer.Floor.{Floor}
 use Rattle.design_problem.specs.declared.answer.Floor.TheVariants.{Absent, Empty, Var}
 use Rattle.design_problem.specs.declared.answer.CapTree.{CapTree}
 use Rattle.design_problem.specs.declared.form.Row.{Row}
+use Rattle.design_problem.specs.declared.problem.VarName.{VarName}
 use Rattle.design_problem.specs.Problems.{DesignProblem}
 use Rattle.design_problem.specs.Boxes.{capped}
 use Rattle.design_problem.specs.Trees.{IsSoundTree, IsClosed}
 use Rattle.design_problem.specs.Rows.{IsFit, IsRow, box_of, forms_of_rows, greatest_cost}
-use Rattle.design_problem.specs.declared.form.CostBox.{CostBox}
+use Rattle.design_problem.specs.declared.boxes.CostBox.{CostBox}
 
 -- an answer: its verdict, costs, floor, rows, the tree that proves it, and a tree that isn't finished
 pub record AnswerParts : Type 0 where
@@ -22,12 +23,12 @@ pub record AnswerParts : Type 0 where
   pub floor : Floor
   pub rows : List Row
   pub proof : Option CapTree
-  pub unfinished : Option CapTree
+  pub undecided : Option CapTree
 
--- the cost lines name the free interfaces, each once, in order, and give each the cost of its variable
-abbrev pub Names : DesignProblem → List CostLine → List ℕ → Type 0
-Names p lines w =
-    AllZip (λ name line. (line.router ≡ name.router) × (line.interface ≡ name.interface) × (line.cost ≡ slice_index w name.var)) p.vars lines
+-- the cost lines name these free interfaces, each once, in order, and give each the cost of its variable
+abbrev pub CostLinesOf : List ℕ → List VarName → List CostLine → Type 0
+CostLinesOf costs names lines =
+    AllZip (λ name line. (line.router ≡ name.router) × (line.interface ≡ name.interface) × (line.cost ≡ slice_index costs name.var)) names lines
 
 -- a closed sound tree over the box at its cap, and no lower bound above the cap
 pub record Proves (p : DesignProblem) (rows : List Row) (cap : ℕ) (proof : CapTree) : Type 0 where
@@ -48,7 +49,7 @@ ShowsLeastGreatest p rows k (Var v) (Some proof) = ⊥
 -- the costs fit, are printed as the cost lines say, and the greatest of them is k
 pub record GivesCosts (p : DesignProblem) (k : ℕ) (costs : Costs) : Type 0 where
   pub values : List ℕ
-  pub names : Names p costs.lines values
+  pub names : CostLinesOf values p.vars costs.lines
   pub fit : IsFit p values
   pub greatest : greatest_cost values ≡ k
   pub printed : costs.greatest ≡ k
@@ -66,7 +67,7 @@ ClaimHolds p rows _ _ _ _ = ⊥
 -- a valid answer to a problem
 pub record IsValid (p : DesignProblem) (a : AnswerParts) : Type 0 where
   pub rows : All (IsRow p) a.rows
-  pub finished : a.unfinished ≡ None
+  pub finished : a.undecided ≡ None
   pub claim : ClaimHolds p a.rows a.verdict a.costs a.floor a.proof
 
 -- the box of the problem at the cap of its greatest bound

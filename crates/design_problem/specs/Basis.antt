@@ -4,7 +4,7 @@ use Rattle.std.specs.List.{AllZip}
 use Rattle.cost_base.specs.Lists.{numbers_from}
 use Rattle.whole_numbers.specs.Fractions.{Fraction, IsLowest, StandsFor, whole}
 use Rattle.design_problem.specs.declared.form.Form.{Form}
-use Rattle.design_problem.specs.declared.form.CostBox.{CostBox}
+use Rattle.design_problem.specs.declared.boxes.CostBox.{CostBox}
 use Rattle.design_problem.specs.declared.tree.Member.{Member}
 use Rattle.design_problem.specs.declared.tree.Member.TheVariants.{Low, High, Row}
 use Rattle.design_problem.specs.Forms.{form_at}

@@ -1,10 +1,11 @@
--- What a tree that is built keeps: one box and a stack of changed ends for the open places, and marks for what was tightened.
+-- What a tree that is built keeps: one box and a stack of changed ends for the open places, and marks for what was
+-- tightened.
 use Rattle.std.specs.Prelude.{◌≡◌, ℕ, ◌+◌, ◌<◌, ◌≤◌, ◌↔◌, Bool, true, false, List, [], ◌∷◌, map, length, reverse, slice_index, All, Contains}
 use Rattle.design_problem.specs.declared.tree.Side.{Side}
 use Rattle.design_problem.specs.declared.tree.Side.TheVariants.{Low as LowSide, High as HighSide}
 use Rattle.design_problem.specs.declared.tree.Entry.{Entry}
 use Rattle.design_problem.specs.declared.tree.Entry.TheVariants.{Tighten, Split, Halve, Refute, Undone}
-use Rattle.design_problem.specs.declared.form.CostBox.{CostBox}
+use Rattle.design_problem.specs.declared.boxes.CostBox.{CostBox}
 use Rattle.design_problem.specs.declared.marks.Marks.{Marks}
 use Rattle.design_problem.specs.Stack.{OpenBoxes}
 use Rattle.design_problem.specs.Earnest.{OpenPlace}

@@ -3,7 +3,7 @@ use Rattle.std.specs.Prelude.{◌≢◌, ℕ, ◌≤ℤ◌, ◌↔◌, List, pos
 use Rattle.area_graph.specs.Area.{Area}
 use Rattle.area_graph.specs.Paths.{IsPathOf}
 use Rattle.design_problem.specs.declared.form.Form.{Form}
-use Rattle.design_problem.specs.declared.form.CostBox.{CostBox}
+use Rattle.design_problem.specs.declared.boxes.CostBox.{CostBox}
 use Rattle.design_problem.specs.declared.tree.Entry.{Entry}
 use Rattle.design_problem.specs.Problems.{DesignProblem, IsProblem, request_ends}
 use Rattle.design_problem.specs.Forms.{value_for_costs, Meets}
@@ -31,7 +31,7 @@ IsMet g w wanted rival = pos 0 ≤ℤ value_for_costs (form_between g (length w)
 -- the costs are within the bounds, and the form of each row is at least 0
 pub record MeetsBoundsAndRows (p : DesignProblem) (w : List ℕ) : Type 0 where
   pub within : IsInBox (box_of p) w
-  pub rows : All (λ r. (rival : List ℕ) → IsPathOf p.graph (request_ends r) rival → rival ≢ r.path.edges → IsMet p.graph w r.path.edges rival) p.paths
+  pub rows : All (λ r. (rival : List ℕ) → IsPathOf p.graph (request_ends r) rival → rival ≢ r.path.edges → IsMet p.graph w r.path.edges rival) p.requests
 
 -- costs are fit exactly where they are within the bounds and the form of each row is at least 0
 abbrev pub FitMeansMet : Type 0

@@ -13,8 +13,9 @@ pub mod BranchingTrees
 pub mod Laws
 pub mod ProblemLaws
 pub mod Text
-pub mod Bounds
+pub mod AnswerRanges
 pub mod Payments
 pub mod OpenPlaces
 pub mod Renumbering
 pub mod Builders
+pub mod SearchTrees

@@ -5,7 +5,7 @@ use Rattle.area_graph.specs.declared.Price.{Price}
 use Rattle.area_graph.specs.declared.Price.TheVariants.{Fixed, Var, Zero}
 use Rattle.design_problem.specs.declared.balance.Balance.{Balance}
 use Rattle.design_problem.specs.declared.form.Term.{Term}
-use Rattle.design_problem.specs.declared.tally.Payment.{Payment}
+use Rattle.design_problem.specs.declared.payments.Payment.{Payment}
 use Rattle.design_problem.specs.Forms.{term_of}
 
 -- the payment of a price, where it is a variable's
@@ -31,7 +31,7 @@ times_saved ps v = count_by (λ p. not p.by_rival && (p.var == v)) ps
 abbrev pub balance_of : List Payment → ℕ → ℤ
 balance_of ps v = pos (times_paid ps v) -ℤ pos (times_saved ps v)
 
--- what one payment adds
+-- what one payment adds to a balance: 1 by the rival, -1 by the wanted path
 abbrev pub one_payment : Bool → ℤ
 one_payment true = pos 1
 one_payment false = negsuc 0

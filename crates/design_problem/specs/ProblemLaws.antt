@@ -1,7 +1,7 @@
 -- What trees and answers prove of a problem, and how large trees are. Each is the contract of a function of `laws`.
 use Rattle.std.specs.Prelude.{◌≡◌, ℕ, ◌+◌, ◌*◌, ◌^◌, ◌<◌, ◌≤◌, ◌↔◌, List, [], ◌∷◌, ◌++◌, length, All, Contains, sum_by, Option, Some, nat_abs}
 use Rattle.design_problem.specs.declared.form.Form.{Form}
-use Rattle.design_problem.specs.declared.form.CostBox.{CostBox}
+use Rattle.design_problem.specs.declared.boxes.CostBox.{CostBox}
 use Rattle.design_problem.specs.declared.form.Row.{Row}
 use Rattle.design_problem.specs.declared.tree.Entry.{Entry}
 use Rattle.design_problem.specs.declared.tree.Entry.TheVariants.{Tighten, Split, Halve, Refute, Undone}
@@ -17,7 +17,7 @@ use Rattle.design_problem.specs.Trees.{IsSoundTree, IsClosed, IsSingleTree, entr
 use Rattle.design_problem.specs.BranchingTrees.{BranchingTree, preorder}
 use Rattle.design_problem.specs.Earnest.{IsEarnestFor}
 use Rattle.design_problem.specs.Rows.{IsFit, AreBestCosts, IsRow, box_of, forms_of_rows, greatest_cost}
-use Rattle.design_problem.specs.Answers.{AnswerParts, Proves, ShowsLeastGreatest, GivesCosts, IsValid, Names, greatest_bound}
+use Rattle.design_problem.specs.Answers.{AnswerParts, Proves, ShowsLeastGreatest, GivesCosts, IsValid, CostLinesOf, greatest_bound}
 
 -- the greatest value is the value at some costs of the box
 abbrev pub GreatestReached : Type 0
@@ -49,7 +49,7 @@ pub record GivesBest (p : DesignProblem) (k : ℕ) (printed : Option Costs) : Ty
   pub costs : Costs
   pub is_printed : printed ≡ Some costs
   pub values : List ℕ
-  pub names : Names p costs.lines values
+  pub names : CostLinesOf values p.vars costs.lines
   pub best : AreBestCosts p values
   pub greatest : greatest_cost values ≡ k
 
@@ -66,7 +66,7 @@ ValidAnswersHold = (p : DesignProblem) (a : AnswerParts) → IsProblem p → IsV
 -- how many entries a sound tree over a box has
 pub record HasFewEntries (box : CostBox) (tree : List Entry) : Type 0 where
   pub count : entry_count tree + 1 ≤ 2 * points box
-  pub unfinished : Contains tree Undone → entry_count tree + 2 ≤ 2 * points box
+  pub undecided : Contains tree Undone → entry_count tree + 2 ≤ 2 * points box
 
 -- a sound tree over a box has fewer entries than twice the box's whole points
 abbrev pub TreesAreSmall : Type 0
@@ -81,10 +81,11 @@ cut_count (Halve var value wide ∷ entries) = 1 + cut_count entries
 cut_count (Refute parts ∷ entries) = cut_count entries
 cut_count (Undone ∷ entries) = cut_count entries
 
--- of the entries of an earnest tree in n variables many have two subtrees: with an Undone at least (N - 2n)/(4n + 2) of N
+-- of the entries of an earnest tree in n variables many have two subtrees: with an Undone at least (N - 2n)/(4n + 2) of
+-- N
 pub record HasManyCuts (n : ℕ) (tree : List Entry) : Type 0 where
   pub count : entry_count tree ≤ 2 * n + 1 + (4 * n + 2) * cut_count tree
-  pub unfinished : Contains tree Undone → entry_count tree ≤ 2 * n + (4 * n + 2) * cut_count tree
+  pub undecided : Contains tree Undone → entry_count tree ≤ 2 * n + (4 * n + 2) * cut_count tree
 
 -- an earnest tree of a problem has many entries with two subtrees
 abbrev pub EarnestTreesCut : Type 0

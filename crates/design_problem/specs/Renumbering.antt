@@ -20,8 +20,8 @@ renumbered_member number (High var bound) = High var bound
 renumbered_member number (Row row) = Row (number row)
 
 -- a multiplier with the new number of its row
-abbrev pub renumbered_part : (ℕ → ℕ) → ℕ × ℕ → ℕ × ℕ
-renumbered_part number part = (number part.0, part.1)
+abbrev pub renumbered_multiplier : (ℕ → ℕ) → ℕ × ℕ → ℕ × ℕ
+renumbered_multiplier number part = (number part.0, part.1)
 
 -- the too wide step with the new numbers of its basis
 abbrev pub renumbered_wide : (ℕ → ℕ) → WideAt → WideAt
@@ -32,5 +32,5 @@ abbrev pub renumbered : (ℕ → ℕ) → Entry → Entry
 renumbered number (Tighten var side value row) = Tighten var side value (number row)
 renumbered number (Split var value) = Split var value
 renumbered number (Halve var value wide) = Halve var value (renumbered_wide number wide)
-renumbered number (Refute parts) = Refute (map (renumbered_part number) parts)
+renumbered number (Refute parts) = Refute (map (renumbered_multiplier number) parts)
 renumbered number Undone = Undone

@@ -5,11 +5,11 @@ use Rattle.area_graph.specs.Area.{Area, edge_at}
 use Rattle.area_graph.specs.declared.Price.{Price}
 use Rattle.area_graph.specs.declared.Price.TheVariants.{Fixed, Var, Zero}
 use Rattle.area_graph.specs.declared.Point.{Point}
-use Rattle.area_graph.specs.Paths.{IsPathOf}
+use Rattle.area_graph.specs.Paths.{Ends, IsPathOf}
 use Rattle.area_graph.specs.Costs.{cost, at_costs, IsOnlyCheapest, LeadsBy}
 use Rattle.design_problem.specs.declared.form.Form.{Form}
 use Rattle.design_problem.specs.declared.problem.Request.{Request}
-use Rattle.design_problem.specs.declared.form.CostBox.{CostBox}
+use Rattle.design_problem.specs.declared.boxes.CostBox.{CostBox}
 use Rattle.design_problem.specs.declared.form.Row.{Row}
 use Rattle.design_problem.specs.Problems.{DesignProblem, request_ends}
 use Rattle.design_problem.specs.Boxes.{IsInBox, IsPointOf}
@@ -54,7 +54,7 @@ box_of p = record { low = p.low; high = p.high }
 -- the costs are fit: within the bounds, and each wanted path is the only cheapest of its request
 pub record IsFit (p : DesignProblem) (w : List ℕ) : Type 0 where
   pub within : IsInBox (box_of p) w
-  pub only : All (λ r. IsOnlyCheapest p.graph (at_costs w) (request_ends r) r.path.edges) p.paths
+  pub only : All (λ r. IsOnlyCheapest p.graph (at_costs w) (request_ends r) r.path.edges) p.requests
 
 -- the largest of the costs, and 0 where there is none
 abbrev pub greatest_cost : List ℕ → ℕ
@@ -67,12 +67,16 @@ pub record AreBestCosts (p : DesignProblem) (w : List ℕ) : Type 0 where
 
 -- at the point every other simple path of each request costs at least the scale more
 abbrev pub LeadsEach : DesignProblem → Point → Type 0
-LeadsEach p point = All (λ r. LeadsBy point.scale p.graph point (request_ends r) r.path.edges) p.paths
+LeadsEach p point = All (λ r. LeadsBy point.scale p.graph point (request_ends r) r.path.edges) p.requests
+
+-- a rival of a wanted path between two ends: another simple path there without the excluded edges
+abbrev pub IsRivalBetween : Area → Ends → List ℕ → List ℕ → Type 0
+IsRivalBetween g ends wanted es = IsPathOf g ends es × (es ≢ wanted)
 
 -- the edges are a simple path of the request, other than the wanted path
 abbrev pub IsRivalOf : Area → Option Request → List ℕ → Type 0
 IsRivalOf g None es = ⊥
-IsRivalOf g (Some r) es = IsPathOf g (request_ends r) es × (es ≢ r.path.edges)
+IsRivalOf g (Some r) es = IsRivalBetween g (request_ends r) r.path.edges es
 
 -- the edges are a simple path of the request
 abbrev pub IsRouteOf : Area → Option Request → List ℕ → Type 0
@@ -81,15 +85,15 @@ IsRouteOf g (Some r) es = IsPathOf g (request_ends r) es
 
 -- the row's number is a request's, and its edges are a simple path of that request, be it the wanted path
 abbrev pub HasRoute : DesignProblem → Row → Type 0
-HasRoute p row = IsRouteOf p.graph (slice_get p.paths row.request) row.rival
+HasRoute p row = IsRouteOf p.graph (slice_get p.requests row.request) row.rival
 
 -- a row: its edges are a simple path of its request, other than the wanted path
 abbrev pub IsRow : DesignProblem → Row → Type 0
-IsRow p row = IsRivalOf p.graph (slice_get p.paths row.request) row.rival
+IsRow p row = IsRivalOf p.graph (slice_get p.requests row.request) row.rival
 
 -- the form of a row
 abbrev pub form_of_row : DesignProblem → Row → Form
-form_of_row p row = form_between p.graph (length p.low) (path_edges (slice_get p.paths row.request)) row.rival
+form_of_row p row = form_between p.graph (length p.low) (path_edges (slice_get p.requests row.request)) row.rival
 
 -- the forms of rows, in their order
 abbrev pub forms_of_rows : DesignProblem → List Row → List Form

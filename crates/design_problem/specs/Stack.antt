@@ -1,7 +1,7 @@
 -- The open boxes of a tree: the box that the next entry speaks of, and those that wait behind it. They are told by one
 -- box and a stack of the ends that were changed.
 use Rattle.std.specs.Prelude.{◌≡◌, ℕ, ◌+◌, ◌<◌, List, [], ◌∷◌, length, reverse, All}
-use Rattle.design_problem.specs.declared.form.CostBox.{CostBox}
+use Rattle.design_problem.specs.declared.boxes.CostBox.{CostBox}
 use Rattle.design_problem.specs.declared.open_boxes.Change.{Change}
 use Rattle.design_problem.specs.declared.open_boxes.Change.TheVariants.{Low, High, Second}
 use Rattle.design_problem.specs.Boxes.{with_low, with_high}

@@ -5,7 +5,7 @@ use Rattle.cost_base.specs.declared.StepName.{StepName}
 use Rattle.cost_base.specs.declared.StepName.TheVariants.{Add, Sub, Mul, Div, Lcm, Scale}
 use Rattle.whole_numbers.specs.Fractions.{Fraction, whole, plus, times, divided, negated, lcm, sum_of, numbers_of_step}
 use Rattle.design_problem.specs.declared.form.Form.{Form}
-use Rattle.design_problem.specs.declared.form.CostBox.{CostBox}
+use Rattle.design_problem.specs.declared.boxes.CostBox.{CostBox}
 use Rattle.design_problem.specs.declared.tree.Member.{Member}
 use Rattle.design_problem.specs.declared.tree.Member.TheVariants.{Low, High, Row}
 use Rattle.design_problem.specs.declared.tree.WideAt.{WideAt}
@@ -36,7 +36,7 @@ pub record IsPivot (basis : List Member) (r : List Fraction) (j : ℕ) : Type 0 
   pub above : pos 0 <ℤ (entry r j).numerator
 
 -- r shows that no point of the box meets the rows
-pub record IsStuck (basis : List Member) (r : List Fraction) : Type 0 where
+pub record IsRefutingForm (basis : List Member) (r : List Fraction) : Type 0 where
   pub below : (entry r 0).numerator <ℤ pos 0
   pub none_above : (k : ℕ) → 1 ≤ k → k ≤ length basis → (entry r k).numerator ≤ℤ pos 0
 
@@ -90,7 +90,8 @@ pub data IsTableStep (box : CostBox) (rows : List Form) (basis : List Member) (l
       IsTableStep box rows basis lows Mul (whole (slice_index_or (form_at rows row).coefficients var (pos 0))) (entry (slice_index_or lows var []) place)
   row_sum : (row place k : ℕ) (next : Fraction) → row < length rows → place ≤ length basis →
       slice_get (terms (form_at rows row).coefficients lows place) k ≡ Some next →
-      IsTableStep box rows basis lows Add (fold plus (start_of_sum box (form_at rows row) place) (take k (terms (form_at rows row).coefficients lows place))) next
+      IsTableStep box rows basis lows Add (fold plus (start_of_sum box (form_at rows row) place) (take k (terms (form_at rows row).coefficients lows place)))
+      next
   pivot_quotient : (r : Member) (es : List Fraction) (j place : ℕ) → IsFormOf box rows r →
       HasEntries box rows basis r es → IsPivot basis es j → place ≤ length basis →
       IsTableStep box rows basis lows Div (entry es place) (entry es j)
@@ -111,16 +112,18 @@ pub data IsTableStep (box : CostBox) (rows : List Form) (basis : List Member) (l
       IsTableStep box rows basis lows Lcm (whole (pos (lcm_of (take k (corner_denominators lows))))) (whole (pos d))
   corner_scale :
       IsTableStep box rows basis lows Scale (whole (pos (lcm_of (corner_denominators lows)))) two_to_27
-  multiple : (r : Member) (es : List Fraction) (k d : ℕ) → IsFormOf box rows r → HasEntries box rows basis r es → IsStuck basis es →
+  multiple : (r : Member) (es : List Fraction) (k d : ℕ) → IsFormOf box rows r → HasEntries box rows basis r es → IsRefutingForm basis es →
       slice_get (denominators (refuting_multipliers basis r es)) k ≡ Some d →
       IsTableStep box rows basis lows Lcm (whole (pos (lcm_of (take k (denominators (refuting_multipliers basis r es)))))) (whole (pos d))
-  multiplier_product : (r : Member) (es : List Fraction) (k : ℕ) (q : Fraction) → IsFormOf box rows r → HasEntries box rows basis r es → IsStuck basis es →
+  multiplier_product : (r : Member) (es : List Fraction) (k : ℕ) (q : Fraction) → IsFormOf box rows r → HasEntries box rows basis r es →
+      IsRefutingForm basis es →
       slice_get (refuting_multipliers basis r es) k ≡ Some q →
       IsTableStep box rows basis lows Mul q (whole (pos (lcm_of (denominators (refuting_multipliers basis r es)))))
-  multiplier_sum : (r : Member) (es : List Fraction) (k : ℕ) (next : Fraction) → IsFormOf box rows r → HasEntries box rows basis r es → IsStuck basis es →
+  multiplier_sum : (r : Member) (es : List Fraction) (k : ℕ) (next : Fraction) → IsFormOf box rows r → HasEntries box rows basis r es →
+      IsRefutingForm basis es →
       slice_get (made_whole (refuting_multipliers basis r es)) k ≡ Some next →
       IsTableStep box rows basis lows Add (sum_of (take k (made_whole (refuting_multipliers basis r es)))) next
-  multiplier_scale : (r : Member) (es : List Fraction) → IsFormOf box rows r → HasEntries box rows basis r es → IsStuck basis es →
+  multiplier_scale : (r : Member) (es : List Fraction) → IsFormOf box rows r → HasEntries box rows basis r es → IsRefutingForm basis es →
       IsTableStep box rows basis lows Scale (sum_of (made_whole (refuting_multipliers basis r es))) two_to_27
 
 -- a fraction as a tree's entry holds it

@@ -35,25 +35,49 @@ verdict_words (Optimal k) = codes "optimal" ∷ decimal k ∷ []
 verdict_words Impossible = codes "impossible" ∷ []
 verdict_words (Undecided cap) = codes "undecided" ∷ codes "budget" ∷ decimal cap ∷ []
 
+-- the line of an answer's verdict
+abbrev pub verdict_line : Verdict → List ℕ
+verdict_line verdict = spaced (codes "verdict" ∷ verdict_words verdict)
+
+-- the first two lines of an answer: its header and its verdict
+abbrev pub head_lines : Verdict → List (List ℕ)
+head_lines verdict = codes "ospfcost answer 1" ∷ verdict_line verdict ∷ []
+
+-- the line `router R` of a section
+abbrev pub router_line : List ℕ → List ℕ
+router_line name = spaced (codes "router" ∷ name ∷ [])
+
+-- the line `interface IF` of a section
+abbrev pub interface_line : List ℕ → List ℕ
+interface_line name = spaced (codes "interface" ∷ name ∷ [])
+
+-- the line ` ip ospf cost N` of a section
+abbrev pub answer_cost_line : ℕ → List ℕ
+answer_cost_line cost = spaced (codes " ip" ∷ codes "ospf" ∷ codes "cost" ∷ decimal cost ∷ [])
+
+-- the lines that a cost line prints behind the line of its router
+abbrev pub interface_lines : CostLine → List (List ℕ)
+interface_lines line = interface_line line.interface ∷ answer_cost_line line.cost ∷ codes "exit" ∷ []
+
 -- the router's line, unless it is that of the cost line before
 abbrev pub router_lines : Option (List ℕ) → List ℕ → List (List ℕ)
-router_lines None router = spaced (codes "router" ∷ router ∷ []) ∷ []
-router_lines (Some before) router = if same_bytes before router then [] else spaced (codes "router" ∷ router ∷ []) ∷ []
+router_lines None router = router_line router ∷ []
+router_lines (Some before) router = if same_bytes before router then [] else router_line router ∷ []
 
 -- the lines of costs: `router R` where it changes, then `interface IF`, ` ip ospf cost N` and `exit`
 abbrev pub cost_lines : Option (List ℕ) → List CostLine → List (List ℕ)
 cost_lines before [] = []
 cost_lines before (line ∷ lines) =
-    router_lines before line.router
-    ++ (spaced (codes "interface" ∷ line.interface ∷ [])
-    ∷ spaced (codes " ip" ∷ codes "ospf" ∷ codes "cost" ∷ decimal line.cost ∷ [])
-    ∷ codes "exit"
-    ∷ cost_lines (Some line.router) lines)
+    router_lines before line.router ++ (interface_lines line ++ cost_lines (Some line.router) lines)
+
+-- the line `costs K` of an answer, K being the greatest cost
+abbrev pub costs_line : ℕ → List ℕ
+costs_line greatest = spaced (codes "costs" ∷ decimal greatest ∷ [])
 
 -- the section of costs: `costs K` with its lines, or `costs none`
 abbrev pub costs_lines : Option Costs → List (List ℕ)
 costs_lines None = codes "costs none" ∷ []
-costs_lines (Some costs) = spaced (codes "costs" ∷ decimal costs.greatest ∷ []) ∷ cost_lines None costs.lines
+costs_lines (Some costs) = costs_line costs.greatest ∷ cost_lines None costs.lines
 
 -- the word behind `floor`: a variable's number, `empty` or `none`
 abbrev pub floor_word : Floor → List ℕ
@@ -61,11 +85,23 @@ floor_word Absent = codes "none"
 floor_word Empty = codes "empty"
 floor_word (Var v) = decimal v
 
+-- the line of an answer's floor
+abbrev pub floor_line : Floor → List ℕ
+floor_line floor = spaced (codes "floor" ∷ floor_word floor ∷ [])
+
+-- the line `rows N`, which counts the rows of a text
+abbrev pub rows_line : ℕ → List ℕ
+rows_line count = spaced (codes "rows" ∷ decimal count ∷ [])
+
 -- `row`, the number of a request, and the edges of its rival
 abbrev pub row_line : Row → List ℕ
 row_line row = spaced (codes "row" ∷ decimal row.request ∷ map decimal row.rival)
 
--- `low` or `high`
+-- the part of rows in a text: the line that counts them, and a line for each
+abbrev pub rows_lines : List Row → List (List ℕ)
+rows_lines rows = rows_line (length rows) ∷ map row_line rows
+
+-- the word that a side is written as: `low` or `high`
 abbrev pub side_word : Side → List ℕ
 side_word LowSide = codes "low"
 side_word HighSide = codes "high"
@@ -100,9 +136,9 @@ members_words [] = []
 members_words (member ∷ members) = member_words member ++ members_words members
 
 -- the row numbers and multipliers of a Refute, one after another
-abbrev pub part_words : List (ℕ × ℕ) → List (List ℕ)
-part_words [] = []
-part_words (part ∷ parts) = decimal part.0 ∷ decimal part.1 ∷ part_words parts
+abbrev pub multiplier_words : List (ℕ × ℕ) → List (List ℕ)
+multiplier_words [] = []
+multiplier_words (part ∷ parts) = decimal part.0 ∷ decimal part.1 ∷ multiplier_words parts
 
 -- the line of an entry: `tighten`, `split`, `halve` or `refute` with its numbers, or `open`
 abbrev pub entry_line : Entry → List ℕ
@@ -110,23 +146,35 @@ entry_line (Tighten v side bound row) = spaced (codes "tighten" ∷ decimal v �
 entry_line (Split v bound) = spaced (codes "split" ∷ decimal v ∷ decimal bound ∷ [])
 entry_line (Halve v bound wide) =
     spaced (codes "halve" ∷ decimal v ∷ decimal bound ∷ step_word wide.step ∷ ratio_word wide.left ∷ ratio_word wide.right ∷ members_words wide.basis)
-entry_line (Refute parts) = spaced (codes "refute" ∷ part_words parts)
+entry_line (Refute parts) = spaced (codes "refute" ∷ multiplier_words parts)
 entry_line Undone = codes "open"
+
+-- the line of a part that has nothing: its word and `none`
+abbrev pub none_line : List ℕ → List ℕ
+none_line word = spaced (word ∷ codes "none" ∷ [])
+
+-- the first line of a part with a tree: its word, the cap, and how many lines follow
+abbrev pub tree_head : List ℕ → ℕ → ℕ → List ℕ
+tree_head word cap count = spaced (word ∷ decimal cap ∷ decimal count ∷ [])
 
 -- a tree's line with its cap and its number of entries, and a line for each entry; or `none`
 abbrev pub tree_lines : List ℕ → Option CapTree → List (List ℕ)
-tree_lines word None = spaced (word ∷ codes "none" ∷ []) ∷ []
-tree_lines word (Some t) = spaced (word ∷ decimal t.cap ∷ decimal (length t.tree) ∷ []) ∷ map entry_line t.tree
+tree_lines word None = none_line word ∷ []
+tree_lines word (Some t) = tree_head word t.cap (length t.tree) ∷ map entry_line t.tree
 
--- the lines of an answer's text: header, verdict, costs, floor, rows, proof, unfinished tree and end
+-- the last two lines of an answer
+abbrev pub end_lines : List (List ℕ)
+end_lines = codes "wide none" ∷ codes "end" ∷ []
+
+-- the lines of an answer's text: header, verdict, costs, floor, rows, proof, undecided tree and end
 abbrev pub answer_lines : AnswerParts → List (List ℕ)
 answer_lines a =
-    (codes "ospfcost answer 1" ∷ spaced (codes "verdict" ∷ verdict_words a.verdict) ∷ [])
+    head_lines a.verdict
     ++ costs_lines a.costs
-    ++ (spaced (codes "floor" ∷ floor_word a.floor ∷ []) ∷ spaced (codes "rows" ∷ decimal (length a.rows) ∷ []) ∷ map row_line a.rows)
+    ++ (floor_line a.floor ∷ rows_lines a.rows)
     ++ tree_lines (codes "proof") a.proof
-    ++ tree_lines (codes "open") a.unfinished
-    ++ (codes "wide none" ∷ codes "end" ∷ [])
+    ++ tree_lines (codes "open") a.undecided
+    ++ end_lines
 
 -- the text of an answer: each of its lines with an LF
 abbrev pub text : AnswerParts → List ℕ
@@ -140,7 +188,8 @@ pub record IsPrintedRatio (q : Ratio) : Type 0 where
   pub numerator : nat_abs fraction.numerator < 2 ^ 127
   pub denominator : fraction.denominator < 2 ^ 127
 
--- a Halve's fractions are printed ones, and its basis names a member; a Refute has a part, and multipliers of at most 31 digits
+-- a Halve's fractions are printed ones, and its basis names a member; a Refute has a part, and multipliers of at most
+-- 31 digits
 abbrev pub FitsEntry : Entry → Type 0
 FitsEntry (Tighten v side bound row) = Unit {0}
 FitsEntry (Split v bound) = Unit {0}
@@ -173,5 +222,5 @@ FitsCosts (Some costs) = All FitsCostLine costs.lines
 pub record FitsAnswer (a : AnswerParts) : Type 0 where
   pub costs : FitsCosts a.costs
   pub proof : FitsTree a.proof
-  pub unfinished : FitsTree a.unfinished
+  pub undecided : FitsTree a.undecided
   pub lines : All (λ line. length line ≤ 65536) (answer_lines a)

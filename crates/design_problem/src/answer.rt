@@ -52,7 +52,7 @@ pub struct CapTree {
 /// The type keeps that the text of the answer is in the grammar of answers: names of one word and costs from 1;
 /// fractions in lowest terms, whose numbers have at most 127 bits; in a Refute at least one row, and multipliers of at
 /// most 31 digits; fewer than 2^32 entries in a tree; lines of at most 65,536 bytes. Whole trees and rising rows are
-/// kept by `Tree` and `Parts`. The fields are public: whoever writes an `Answer` proves this.
+/// kept by `Tree` and `Multipliers`. The fields are public: whoever writes an `Answer` proves this.
 #[derive(Drop)]
 pub struct Answer {
     pub verdict: Verdict,
@@ -65,7 +65,7 @@ pub struct Answer {
     /// A closed tree, with the cap of its box: no fit costs are within it.
     pub proof: Option<CapTree>,
     /// The tree at which the budget was used up, with the cap of its box.
-    pub unfinished: Option<CapTree>,
+    pub undecided: Option<CapTree>,
 }
 
 impl Model for Answer {
@@ -81,7 +81,7 @@ impl Model for Answer {
       floor = a.floor;
       rows = a.rows;
       proof = a.proof;
-      unfinished = a.unfinished;
+      undecided = a.undecided;
     } };
 
     ghost invariant = { λ a. FitsAnswer (record {
@@ -90,6 +90,6 @@ impl Model for Answer {
       floor = a.floor;
       rows = a.rows;
       proof = a.proof;
-      unfinished = a.unfinished;
+      undecided = a.undecided;
     }) };
 }

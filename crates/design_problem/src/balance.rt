@@ -6,7 +6,7 @@ ghost use Rattle.design_problem.specs.Payments.{IsTurnedTo, balance_of, one_paym
 
 use crate::Term;
 use crate::form::push_term;
-use crate::tally::Payment;
+use crate::payments::Payment;
 use cost_base::OutOfMemory;
 use std::alloc::Global;
 

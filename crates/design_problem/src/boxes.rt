@@ -1,11 +1,37 @@
-//! The box of a problem at a cap.
+//! Boxes of costs, and the box of a problem at a cap.
 ghost use Rattle.std.specs.Prelude.{◌≡◌, ℕ, ◌≤◌, length, min, map, All, IfOk};
 ghost use Rattle.design_problem.specs.Boxes.{IsBox, capped};
 ghost use Rattle.design_problem.specs.Rows.{box_of};
 
-use crate::{CostBox, Problem};
+use crate::Problem;
 use cost_base::{Listed, OutOfMemory};
 use std::alloc::Global;
+
+/// A range for each variable, from `low` to `high`, both ends included.
+///
+/// A box is never empty on a variable. The type doesn't keep that, since a box is cut at one end after the other;
+/// each call that makes or takes a box says it (`IsBox`).
+#[derive(Drop)]
+pub struct CostBox {
+    pub low: Listed<u16>,
+    pub high: Listed<u16>,
+}
+
+impl CostBox {
+    /// An equal box.
+    ///
+    /// # Errors
+    ///
+    /// `OutOfMemory`.
+    pub fn copy(&self, alloc: Global) -> Result<CostBox, OutOfMemory>
+        ensures { IfOk result (λ copy. copy ≡ self.now) }
+    {
+        Ok(CostBox {
+            low: self.low.copy(alloc)?,
+            high: self.high.copy(alloc)?,
+        })
+    }
+}
 
 /// Each number, or the cap where the number is above it.
 fn cut_to(alloc: Global, numbers: &[u16], cap: u16) -> Result<Vec<u16>, OutOfMemory>
@@ -32,10 +58,10 @@ pub fn capped_box(
     ensures { IfOk result (λ costs. costs ≡ capped (record { low = low.now; high = high.now })
         cap) }
 {
-    let low = low.to_vec(alloc)?;
+    let low = Listed::from_slice(alloc, low)?;
     let high = cut_to(alloc, high, cap)?;
     Ok(CostBox {
-        low: Listed::from_items(low),
+        low,
         high: Listed::from_items(high),
     })
 }

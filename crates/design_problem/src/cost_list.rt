@@ -1,5 +1,6 @@
 //! Lists of costs.
-ghost use Rattle.std.specs.Prelude.{◌≡◌};
+ghost use Rattle.std.specs.Prelude.{◌≡◌, ◌*◌, ◌≤◌, length};
+ghost use Rattle.std.specs.List.{sum};
 ghost use Rattle.design_problem.specs.Rows.{greatest_cost};
 
 use std::marker::Model;
@@ -43,4 +44,16 @@ pub fn greatest_of(costs: &[u16]) -> u16
         greatest = greatest.max(*cost);
     }
     greatest
+}
+
+/// The sum of costs.
+pub fn sum_of_costs(costs: &[u16]) -> u128
+    ensures sum { result ≡ sum costs.now }
+    ensures most { result ≤ 65535 * length costs.now }
+{
+    let mut total = 0u128;
+    for cost in costs {
+        total += u128::from(*cost);
+    }
+    total
 }

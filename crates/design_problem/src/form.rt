@@ -1,20 +1,10 @@
-//! Boxes of costs, rows, and their forms.
+//! Rows and their forms.
 ghost use Rattle.std.specs.Prelude.{◌≡◌, ◌^◌, ◌<◌, ◌≤◌, ◌++◌, length, All, IfOk, OnOk};
 ghost use Rattle.design_problem.specs.Forms.{term_of, terms_from, terms_of, form_by, AreTerms};
 
 use cost_base::{Listed, OutOfMemory};
 use std::alloc::Global;
 use std::marker::Model;
-
-/// A range for each variable, from `low` to `high`, both ends included.
-///
-/// A box is never empty on a variable. The type doesn't keep that, since a box is cut at one end after the other;
-/// each call that makes or takes a box says it (`IsBox`).
-#[derive(Drop)]
-pub struct CostBox {
-    pub low: Listed<u16>,
-    pub high: Listed<u16>,
-}
 
 /// A request, by its number, and a rival of its path: a simple path of that request other than the wanted one. The
 /// rival is its edges, in their order; they start where the wanted path starts.
@@ -79,17 +69,6 @@ fn terms_of_all(alloc: Global, coefficients: &[i64]) -> Result<Vec<Term>, OutOfM
         push_term(&mut terms, var as u32, coefficients[var])?;
     }
     Ok(terms)
-}
-
-/// The same terms, in memory of their own.
-///
-/// # Errors
-///
-/// `OutOfMemory`.
-pub fn copied_terms(alloc: Global, terms: &[Term]) -> Result<Vec<Term>, OutOfMemory>
-    ensures { IfOk result (λ copy. copy.items ≡ terms.now) }
-{
-    Ok(terms.to_vec(alloc)?)
 }
 
 impl Form {
@@ -160,7 +139,7 @@ impl Form {
     pub fn copy(&self, alloc: Global) -> Result<Form, OutOfMemory>
         ensures { IfOk result (λ form. form ≡ self.now) }
     {
-        let terms = copied_terms(alloc, self.terms.as_slice())?;
+        let terms = Vec::from_slice(alloc, self.terms.as_slice())?;
         Ok(Form {
             constant: self.constant,
             variables: self.variables,

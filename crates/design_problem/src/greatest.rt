@@ -6,7 +6,7 @@ ghost use Rattle.design_problem.specs.Trees.{IsSmaller, removed};
 use crate::{CostBox, Form, Side};
 
 /// A coefficient times the end of a range at which that is greatest.
-pub fn greatest_term(coefficient: i64, low: u16, high: u16) -> i64
+pub(crate) fn greatest_term(coefficient: i64, low: u16, high: u16) -> i64
     requires { nat_abs coefficient ≤ 2 ^ 26 }
     ensures value { result ≡ upper_term coefficient low high }
     ensures size { nat_abs result ≤ 2 ^ 42 }

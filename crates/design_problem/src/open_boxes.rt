@@ -1,11 +1,12 @@
 //! The open boxes of a tree that is gone through entry by entry: one box, and a stack of the ends that were changed.
-ghost use Rattle.std.specs.Prelude.{◌≡◌, ◌+◌, ◌<◌, ◌∷◌, ◌++◌, [], length, slice_index, MatchBool, OnErr, OnOk};
+ghost use Rattle.std.specs.Prelude.{◌≡◌, ◌+◌, ◌<◌, ◌∷◌, ◌++◌, List, [], length, slice_index, IfOk, MatchBool, OnErr, OnOk};
 ghost use Rattle.design_problem.specs.Boxes.{with_high, with_low};
 ghost use Rattle.design_problem.specs.Stack.{IsStack, waiting, open_boxes_of};
-ghost use Rattle.design_problem.specs.Trees.{tightened};
+ghost use Rattle.design_problem.specs.declared.form.Form.{Form};
+ghost use Rattle.design_problem.specs.Trees.{SoundAt, subboxes, tightened};
 
-use crate::{CostBox, Side};
-use cost_base::OutOfMemory;
+use crate::{CostBox, Entry, Side};
+use cost_base::{OutOfMemory, push_last};
 use std::alloc::Global;
 use std::marker::Model;
 
@@ -34,15 +35,6 @@ impl Model for OpenBoxes {
     ghost view = { λ b. open_boxes_of b.costs b.changes.items };
 
     ghost invariant = { λ b. IsStack b.costs b.changes.items };
-}
-
-/// Puts a change onto the stack.
-fn push(changes: &mut Vec<Change>, change: Change) -> Result<(), OutOfMemory>
-    ensures done { OnOk result (changes.new.items ≡ changes.old.items ++ change ∷ []) }
-    ensures same { OnErr result (changes.new.items ≡ changes.old.items) }
-{
-    changes.push(change)?;
-    Ok(())
 }
 
 /// Puts changes back until a second part is met, goes on with it, and says whether there was one.
@@ -104,14 +96,14 @@ impl OpenBoxes {
         let place = var as usize;
         match side {
             Side::Low => {
-                push(
+                push_last(
                     &mut self.changes,
                     Change::Low(var, self.costs.low.as_slice()[place]),
                 )?;
                 self.costs.low.set(place, value);
             }
             Side::High => {
-                push(
+                push_last(
                     &mut self.changes,
                     Change::High(var, self.costs.high.as_slice()[place]),
                 )?;
@@ -138,7 +130,7 @@ impl OpenBoxes {
     {
         let place = var as usize;
         let was = self.costs.high.as_slice()[place];
-        push(&mut self.changes, Change::Second(var, value, was))?;
+        push_last(&mut self.changes, Change::Second(var, value, was))?;
         self.costs.high.set(place, value);
         Ok(())
     }
@@ -149,5 +141,31 @@ impl OpenBoxes {
             (self.old.behind ≡ []) }
     {
         put_back(&mut self.costs, &mut self.changes)
+    }
+    /// Goes on behind an entry that is sound at the present box: with the boxes of its subtrees, and then those that
+    /// wait. Says whether a box is still open.
+    ///
+    /// # Errors
+    ///
+    /// `OutOfMemory` where the stack got no memory.
+    pub fn go_on(&mut self, entry: &Entry) -> Result<bool, OutOfMemory>
+        requires { (forms : List Form) × SoundAt forms self.old.present entry.now }
+        ensures { IfOk result
+            (λ more. MatchBool more (subboxes self.old.present entry.now ++ self.old.behind ≡
+            self.new.present ∷ self.new.behind) (subboxes self.old.present entry.now ++
+            self.old.behind ≡ [])) }
+    {
+        match entry {
+            Entry::Tighten {
+                var,
+                side,
+                value,
+                ..
+            } => self.tighten(*var, *side, *value)?,
+            Entry::Split { var, value } => self.cut(*var, *value)?,
+            Entry::Halve { var, value, .. } => self.cut(*var, *value)?,
+            Entry::Refute { .. } | Entry::Undone => return Ok(self.close()),
+        }
+        Ok(true)
     }
 }

@@ -3,49 +3,22 @@ ghost use Rattle.std.specs.Prelude.{◌≡◌, ℕ, ◌<◌, length, map, All, I
 ghost use Rattle.std.specs.List.Sorted.{IsStrictlyIncreasing};
 ghost use Rattle.design_problem.specs.Problems.{request_at, restricted};
 
-use crate::{Problem, Request, VarName};
+use crate::{Problem, Request, VarName, var_name};
 use area_graph::Path;
-use cost_base::{Listed, Name, OutOfMemory};
+use cost_base::{Listed, OutOfMemory};
 use std::alloc::Global;
-
-/// A copy of numbers.
-fn copied_numbers(alloc: Global, numbers: &[u32]) -> Result<Listed<u32>, OutOfMemory>
-    ensures { IfOk result (λ copy. copy ≡ numbers.now) }
-{
-    Ok(Listed::from_items(numbers.to_vec(alloc)?))
-}
-
-/// A copy of bounds.
-fn copied_bounds(alloc: Global, bounds: &[u16]) -> Result<Listed<u16>, OutOfMemory>
-    ensures { IfOk result (λ copy. copy ≡ bounds.now) }
-{
-    Ok(Listed::from_items(bounds.to_vec(alloc)?))
-}
 
 /// A copy of a request.
 fn copied_request(alloc: Global, request: &Request) -> Result<Request, OutOfMemory>
     ensures { IfOk result (λ copy. copy ≡ request.now) }
 {
-    let edges = copied_numbers(alloc, request.path.edges.as_slice())?;
-    let excluded = copied_numbers(alloc, request.excluded.as_slice())?;
+    let edges = request.path.edges.copy(alloc)?;
+    let excluded = request.excluded.copy(alloc)?;
     let start = request.path.start;
     Ok(Request {
         path: Path { start, edges },
         end: request.end,
         excluded,
-    })
-}
-
-/// An equal free interface.
-fn copied_name(alloc: Global, name: &VarName) -> Result<VarName, OutOfMemory>
-    ensures { IfOk result (λ copy. copy ≡ name.now) }
-{
-    let router = Name::from_bytes(alloc, name.router.as_bytes())?;
-    let interface = Name::from_bytes(alloc, name.interface.as_bytes())?;
-    Ok(VarName {
-        router,
-        interface,
-        var: name.var,
     })
 }
 
@@ -55,7 +28,8 @@ fn copied_names(alloc: Global, names: &[VarName]) -> Result<Vec<VarName>, OutOfM
 {
     let mut copies = Vec::new(alloc);
     for name in names {
-        copies.push(copied_name(alloc, name)?)?;
+        let (router, interface) = (name.router.as_bytes(), name.interface.as_bytes());
+        copies.push(var_name(alloc, router, interface, name.var)?)?;
     }
     Ok(copies)
 }
@@ -85,20 +59,20 @@ impl Problem {
     /// `OutOfMemory`.
     pub fn only(&self, alloc: Global, members: &[u32]) -> Result<Problem, OutOfMemory>
         requires rising { IsStrictlyIncreasing members.now }
-        requires known { All (λ m. m < length self.now.paths) members.now }
+        requires known { All (λ m. m < length self.now.requests) members.now }
         ensures { IfOk result (λ problem. problem ≡ restricted self.now members.now) }
     {
-        let paths = requests_of(alloc, self.paths.as_slice(), members)?;
+        let requests = requests_of(alloc, self.requests.as_slice(), members)?;
         let vars = copied_names(alloc, self.vars.as_slice())?;
-        let low = copied_bounds(alloc, self.low.as_slice())?;
-        let high = copied_bounds(alloc, self.high.as_slice())?;
+        let low = self.low.copy(alloc)?;
+        let high = self.high.copy(alloc)?;
         let graph = self.graph.copy(alloc)?;
         Ok(Problem {
             graph,
             vars: Listed::from_items(vars),
             low,
             high,
-            paths: Listed::from_items(paths),
+            requests: Listed::from_items(requests),
         })
     }
 }

@@ -7,7 +7,7 @@ ghost use Rattle.design_problem.specs.Payments.{payments_of};
 ghost use Rattle.design_problem.specs.Rows.{HasRoute, fixed_cost, form_between, form_of_row};
 
 use crate::balance::terms_of_payments;
-use crate::tally::{Payment, fixed_sum, note_path};
+use crate::payments::{Payment, fixed_sum, note_path};
 use crate::{Form, Problem, Row};
 use area_graph::Graph;
 use cost_base::OutOfMemory;
@@ -83,7 +83,7 @@ pub fn form_of(alloc: Global, problem: &Problem, row: &Row) -> Result<Form, OutO
     ensures small { IfOk result (λ form. IsSmallForm (length problem.now.low) form) }
 {
     problem.graph.keeps_conditions();
-    let wanted = problem.paths.as_slice()[row.request as usize]
+    let wanted = problem.requests.as_slice()[row.request as usize]
         .path
         .edges
         .as_slice();

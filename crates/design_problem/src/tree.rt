@@ -38,11 +38,11 @@ pub struct WideAt {
 /// Rows, by their numbers, with their multipliers. The type keeps that the rows rise strictly and that the
 /// multipliers are positive. Contracts see the list of the pairs.
 #[derive(Drop)]
-pub struct Parts {
+pub struct Multipliers {
     items: Vec<(u64, u128)>,
 }
 
-impl Model for Parts {
+impl Model for Multipliers {
     ghost use Rattle.std.specs.Prelude.{ℕ, ◌<◌, List, All, AllPairs};
 
     ghost Value = { List (ℕ × ℕ) };
@@ -55,14 +55,14 @@ impl Model for Parts {
     } };
 }
 
-impl Parts {
+impl Multipliers {
     /// The rows with these multipliers.
-    pub fn from_items(items: Vec<(u64, u128)>) -> Parts
+    pub fn from_items(items: Vec<(u64, u128)>) -> Multipliers
         requires rising { AllPairs (λ a b. a.0 < b.0) items.items }
         requires positive { All (λ part. 0 < part.1) items.items }
         ensures { result ≡ items.items }
     {
-        Parts { items }
+        Multipliers { items }
     }
 
     /// The rows with their multipliers, in rising order of the rows.
@@ -98,7 +98,7 @@ pub enum Entry {
     },
     /// The rows, each times its multiplier, refute the box.
     Refute {
-        parts: Parts,
+        parts: Multipliers,
     },
     /// Says nothing of its box.
     Undone,

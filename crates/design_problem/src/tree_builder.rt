@@ -9,7 +9,7 @@ ghost use Rattle.design_problem.specs.OpenPlaces.{first_place, fresh, grown, und
 
 use crate::marks::Marks;
 use crate::{CostBox, Entry, OpenBoxes, Side, Tree};
-use cost_base::OutOfMemory;
+use cost_base::{OutOfMemory, push_last};
 use std::alloc::Global;
 use std::marker::Model;
 
@@ -38,14 +38,6 @@ impl Model for TreeBuilder {
     } };
 
     ghost invariant = { λ t. KeepsBuilder t.entries.items t.is_open t.boxes t.marks };
-}
-
-/// Puts an entry at the end.
-fn push(entries: &mut Vec<Entry>, entry: Entry) -> Result<(), OutOfMemory>
-    ensures { OnOk result (entries.new.items ≡ entries.old.items ++ entry ∷ []) }
-{
-    entries.push(entry)?;
-    Ok(())
 }
 
 impl TreeBuilder {
@@ -124,7 +116,7 @@ impl TreeBuilder {
         } = self;
         let count = entries.as_slice().len() + 1;
         let is_open = go_on(&mut boxes, &mut marks, &entry, count)?;
-        push(&mut entries, entry)?;
+        push_last(&mut entries, entry)?;
         Ok(TreeBuilder {
             entries,
             boxes,
@@ -180,28 +172,12 @@ fn go_on(
         count ≡ length entries + 1 →
         OnOk result (KeepsMarks n (entries ++ entry.now ∷ []) marks.new) }
 {
+    let is_open = boxes.go_on(entry)?;
     match entry {
-        Entry::Tighten {
-            var,
-            side,
-            value,
-            ..
-        } => {
-            boxes.tighten(*var, *side, *value)?;
-            marks.mark(*var as usize, *side, count);
-        }
-        Entry::Split { var, value } => {
-            boxes.cut(*var, *value)?;
+        Entry::Tighten { var, side, .. } => marks.mark(*var as usize, *side, count),
+        Entry::Split { .. } | Entry::Halve { .. } | Entry::Refute { .. } | Entry::Undone => {
             marks.clear(count);
-        }
-        Entry::Halve { var, value, .. } => {
-            boxes.cut(*var, *value)?;
-            marks.clear(count);
-        }
-        Entry::Refute { .. } | Entry::Undone => {
-            marks.clear(count);
-            return Ok(boxes.close());
         }
     }
-    Ok(true)
+    Ok(is_open)
 }

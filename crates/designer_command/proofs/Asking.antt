@@ -21,9 +21,9 @@ use Rattle.input_files.proofs.Readings.{one_end}
 use Rattle.report_writer.specs.declared.report.Report.{Report}
 use Rattle.report_writer.specs.Reports.{IsWritten, Reports, ReportsAny, bytes_in}
 use Rattle.report_writer.proofs.ReportLaws.{may_report}
-use Rattle.design_commands.specs.Asking.{AsksAt, IsMadeText}
+use Rattle.design_commands.specs.AdvisorsAsked.{AsksAt, IsMadeText}
 use Rattle.design_commands.proofs.Asking.{asked_of_report, asks_one, read_alone}
-use Rattle.designer_command.specs.Asking.{IsMadeAsking}
+use Rattle.designer_command.specs.AdvisorsAsked.{IsMadeAsking}
 use Rattle.designer_command.specs.Runs.{IsMadeAs, IsTried, MayReport, MayWant, MayWrite, MayWriteAsking, RunMeets, Writes}
 use Rattle.designer_command.specs.Usage.{usage}
 use Rattle.designer_command.proofs.Runs.{WritesNone, done_after, wanting_after, writes_none, written_meets}
@@ -86,7 +86,8 @@ trial_made Given Asked job blocks start made is given tried asked =
     by_made (Err stop) done asks = inl (ap (λ (s : Stop). Err s) done)
 
 -- a job's report may be written, and the advisors were asked so for it; what came begins what the words ask for
-pub record IsDoneAsking (Asked : Option JobRead → List Taken → List ℕ → Type 0) (job : JobRead) (came : List Taken) (result : Result Report OutOfMemory) : Type 0 where
+pub record IsDoneAsking (Asked : Option JobRead → List Taken → List ℕ → Type 0) (job : JobRead) (came : List Taken) (result : Result Report OutOfMemory) : Type
+    0 where
   pub done : IfOk result (λ report. MayWriteAsking (MayWrite (Some job) came) (Asked (Some job) came) report.status (bytes_in report.text))
   pub begun : MayWant (Some job) came
 

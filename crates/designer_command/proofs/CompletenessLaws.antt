@@ -3,6 +3,7 @@ use Rattle.std.proofs.Common.{◌≡◌, ◌∙◌, ℕ, ◌+◌, ◌<◌, ◌�
 use Rattle.std.specs.Prelude.{All, Option, None, Some, Result, Ok, Err, bytes_eq}
 use Rattle.std.proofs.lemmas.List.Sums.{sum_by-cons}
 use Rattle.std.proofs.lemmas.Slice.Eq.{bytes_eq-Decides}
+use Rattle.std.proofs.lemmas.Option.{same_Some}
 use Rattle.cost_base.specs.declared.ShelfStop.{ShelfStop}
 use Rattle.cost_base.specs.declared.ShelfStop.TheVariants as stop
 use Rattle.cost_base.specs.declared.Status.{Status}
@@ -16,9 +17,10 @@ use Rattle.design_problem.specs.Problems.{DesignProblem}
 use Rattle.design_problem.specs.Rows.{AreBestCosts}
 use Rattle.design_problem.specs.ProblemLaws.{HasNoFit}
 use Rattle.sections_reader.proofs.SaidCosts.{said_once, said_read}
-use Rattle.least_bound.specs.Answered.{UnfinishedAt}
+use Rattle.least_bound.specs.Answered.{UndecidedAt}
 use Rattle.config_writer.specs.Rewriting.{first_missing}
-use Rattle.command_words.specs.Jobs.{SearchLimits, JobRead}
+use Rattle.command_words.specs.Jobs.{JobRead}
+use Rattle.wide_fraction.specs.SearchLimits.{SearchLimits}
 use Rattle.command_words.specs.Jobs as read
 use Rattle.command_words.specs.Commands.{job_of}
 use Rattle.trial_maker.specs.TrialTexts.{made_trial}
@@ -32,7 +34,7 @@ use Rattle.design_commands.specs.Designs.{IsDesigned, IsShownImpossible, IsShown
 use Rattle.design_commands.specs.Trials.{MayTry, MayTryEnd, trial_end, trial_limits}
 use Rattle.path_commands.specs.Audits.{MayAudit}
 use Rattle.designer_command.specs.Runs.{MayWrite, MayWriteAsking, OnFailure, RunMeets, Writes}
-use Rattle.designer_command.specs.Completeness.{CannotBeUndecided, DesignsAreAccepted, HeadedCostsAreWritten, IsRunSettled, TrialsAreDesigned, ValidAnswersAreAccepted, WellFormedInputIsAudited, WellFormedInputIsDesigned}
+use Rattle.designer_command.specs.Completeness.{IsSufficient, DesignsAreAccepted, HeadedCostsAreWritten, IsRunSettled, TrialsAreDesigned, ValidAnswersAreAccepted, WellFormedInputIsAudited, WellFormedInputIsDesigned}
 use Rattle.designer_command.proofs.OwnStatuses.{only_done, own_audit, own_check, own_design, own_end, own_rewrite, own_try, said_end}
 
 pub audited : WellFormedInputIsAudited
@@ -58,10 +60,10 @@ none_settles p none = record {
 }
 
 -- where the budget can't be used up, no text shows that it was
-pub never_undecided : (limits : SearchLimits) (p : DesignProblem) (bytes : List ℕ) → CannotBeUndecided limits p → IsShownUndecided limits p bytes → ⊥
-never_undecided limits p bytes never shown = by_tree shown.answer.unfinished shown.undecided.unfinished
+pub never_undecided : (limits : SearchLimits) (p : DesignProblem) (bytes : List ℕ) → IsSufficient limits p → IsShownUndecided limits p bytes → ⊥
+never_undecided limits p bytes never shown = by_tree shown.answer.undecided shown.undecided.undecided
   where
-    by_tree : (t : Option CapTree) → UnfinishedAt p limits.top limits.nodes shown.answer.rows shown.cap t → ⊥
+    by_tree : (t : Option CapTree) → UndecidedAt p limits.top limits.nodes shown.answer.rows shown.cap t → ⊥
     by_tree None h = h
     by_tree (Some t) h =
         never t.cap shown.answer.rows t.tree
@@ -96,9 +98,6 @@ designs_accepted limits d aim printed (inr is) may names answer came end bytes e
     let shown : IsShownImpossible limits d.problem printed = subst (λ (s : Status). MayDesign limits d s printed) is may in
     accepted names answer came (record { problem = d.problem; bytes = printed }) shown.answer end bytes ends shown.value shown.spelled shown.valid h
 
-some_lines : (x y : List CostLine) → Some x ≡ Some y → x ≡ y
-some_lines x y e = cc
-
 none_some : (x : List CostLine) → Some x ≡ None → ⊥
 none_some x e = cc
 
@@ -112,7 +111,7 @@ written config answer came r costs end bytes ends said headed h =
     fit rejection (inr (inr missing)) =
         missing.missing
         (subst (λ (cs : List CostLine). first_missing (new_costs r.config cs) r.config.bytes ≡ None)
-        (some_lines costs missing.costs (said_once r.bytes (Some costs) (Some missing.costs) said missing.said)) headed)
+        (same_Some costs missing.costs (said_once r.bytes (Some costs) (Some missing.costs) said missing.said)) headed)
 
 abbrev mark : Bool → ℕ
 mark b = cond b 1 0
@@ -121,7 +120,8 @@ mark b = cond b 1 0
 one_failed : (name file : List ℕ) (names : List (List ℕ)) → name ≡ file → 0 < count_of_name (name ∷ names) file
 one_failed name file names same =
     let here : bytes_eq name file ≡ true = (bytes_eq-Decides name file).1 same in
-    let counted : count_of_name (name ∷ names) file ≡ mark (bytes_eq name file) + count_of_name names file = sum_by-cons (λ (x : List ℕ). mark (bytes_eq x file)) name names in
+    let counted : count_of_name (name ∷ names) file ≡ mark (bytes_eq name file) + count_of_name names file = sum_by-cons
+    (λ (x : List ℕ). mark (bytes_eq x file)) name names in
     let one : mark (bytes_eq name file) ≡ mark true = ap mark here in
     omega (arith, counted, one)
 
@@ -133,7 +133,8 @@ failed_here : {A : Type 0} (taken_name name : List ℕ) (next : List ℕ → Rea
     (came : Result (List ℕ) ShelfStop) → taken_name ≡ name →
     OnCame came (λ bytes. EndsAs (next bytes) more (Failed file))
     ((more ≡ []) × (failed A file ≡ Faulty (too_long name))) ((more ≡ []) × (failed A file ≡ Failed name)) →
-    ((bytes : List ℕ) → EndsAs (next bytes) more (Failed file) → 0 < count_of_name (failures more) file) → 0 < count_of_name (failure taken_name came ++ failures more) file
+    ((bytes : List ℕ) → EndsAs (next bytes) more (Failed file) → 0 < count_of_name (failures more) file) →
+    0 < count_of_name (failure taken_name came ++ failures more) file
 failed_here taken_name name next more file (Ok bytes) is then rest = rest bytes then
 failed_here {A = A} taken_name name next more file (Err stop.TooLong) is then rest = absurd (faulty_failed {A = A} (too_long name) file (sym then.1))
 failed_here {A = A} taken_name name next more file (Err stop.Failed) is then rest =
@@ -142,7 +143,8 @@ failed_here {A = A} taken_name name next more file (Err stop.Failed) is then res
 failed_here taken_name name next more file (Err stop.OutOfMemory) is then rest = absurd then
 
 -- the file that failed is among those that failed
-failed_among : {A : Type 0} (reading : Reading A) (came : List Taken) (file : List ℕ) → EndsAs reading came (Failed file) → 0 < count_of_name (failures came) file
+failed_among : {A : Type 0} (reading : Reading A) (came : List Taken) (file : List ℕ) → EndsAs reading came (Failed file) →
+    0 < count_of_name (failures came) file
 failed_among (Ready x) [] file is = absurd (said_failed x file (sym is))
 failed_among (Ready x) (taken ∷ more) file is = absurd is
 failed_among {A = A} (Refused r) [] file is = absurd (faulty_failed {A = A} r file (sym is))
@@ -188,7 +190,8 @@ pub sure_shelf : (words : List (List ℕ)) (Asked : Option JobRead → List Take
     (handed : List ℕ → Type 0) (got_before got_now : Option (List ℕ)) (count_before count_now : ℕ) (end : Status) →
     RunMeets words Asked gave held (λ name. 0) (λ name. 0) handed got_before got_now count_before count_now end → end ≡ status.ReadFault → ⊥
 sure_shelf words Asked gave held handed got_before got_now count_before count_now end meets is =
-    let whole = subst (λ (s : Status). Writes (MayWriteAsking (MayWrite (job_of words) meets.came) (Asked (job_of words) meets.came)) handed got_before got_now count_before count_now s) is meets.written in
+    let whole = subst (λ (s : Status). Writes (MayWriteAsking (MayWrite (job_of words) meets.came) (Asked (job_of words) meets.came)) handed got_before got_now
+    count_before count_now s) is meets.written in
     no_read_fault (job_of words) meets.came whole.bytes meets.counted whole.allowed.0
 
 -- nor with one of a sink
@@ -196,7 +199,8 @@ pub sure_sink : (words : List (List ℕ)) (Asked : Option JobRead → List Taken
     (before now : List ℕ → ℕ) (handed : List ℕ → Type 0) (got_before got_now : Option (List ℕ)) (end : Status) →
     RunMeets words Asked gave held before now handed got_before got_now 0 0 end → end ≡ status.WriteFault → ⊥
 sure_sink words Asked gave held before now handed got_before got_now end meets is =
-    let part = subst (λ (s : Status). Writes (MayWriteAsking (MayWrite (job_of words) meets.came) (Asked (job_of words) meets.came)) handed got_before got_now 0 0 s) is meets.written in
+    let part = subst (λ (s : Status). Writes (MayWriteAsking (MayWrite (job_of words) meets.came) (Asked (job_of words) meets.came)) handed got_before got_now 0
+    0 s) is meets.written in
     never_rose part.cause
   where
     never_rose : Rose 0 0 → ⊥

@@ -4,16 +4,16 @@ use Rattle.std.specs.Prelude.{◌⊎◌}
 use Rattle.cost_base.specs.declared.Status.{Status}
 use Rattle.cost_base.specs.declared.Status.TheVariants as status
 use Rattle.design_problem.specs.Problems.{DesignProblem}
-use Rattle.command_words.specs.Jobs.{SearchLimits}
-use Rattle.conflict_core.specs.declared.conflict.Conflict.{Conflict}
-use Rattle.conflict_core.specs.declared.conflict.Conflict.TheVariants.{Fits, Core, Undecided as NoConflictKnown}
-use Rattle.conflict_core.specs.Conflicts.{IsConflictFound}
-use Rattle.conflict_core.specs.Laws.{CannotBeUndecidedOnSets}
-use Rattle.conflict_core.proofs.LargeBudgets.{sufficient_settle as conflict_settles}
+use Rattle.wide_fraction.specs.SearchLimits.{SearchLimits}
+use Rattle.least_conflict.specs.declared.conflict.Conflict.{Conflict}
+use Rattle.least_conflict.specs.declared.conflict.Conflict.TheVariants.{Fit as FitForAll, Least as LeastConflict, Undecided as ConflictUndecided}
+use Rattle.least_conflict.specs.Conflicts.{IsConflictFound}
+use Rattle.least_conflict.specs.Laws.{IsSufficientForSets}
+use Rattle.least_conflict.proofs.LargeBudgets.{sufficient_settle as conflict_settles}
 use Rattle.path_commands.specs.Conflicts as conflicts
 use Rattle.path_commands.specs.Conflicts.{MayConflict, ShowsConflict}
 use Rattle.spread_sets.specs.declared.spread.Spread.{Spread}
-use Rattle.spread_sets.specs.declared.spread.Spread.TheVariants.{Fit, Impossible as NoSpread, Undecided as NoSpreadKnown}
+use Rattle.spread_sets.specs.declared.spread.Spread.TheVariants.{Fit, Impossible as NoSpread, Undecided as SpreadUndecided}
 use Rattle.spread_sets.specs.Answers.{IsSpreadFound}
 use Rattle.spread_sets.proofs.PrintedSets.{sufficient_settle as spread_settles}
 use Rattle.path_commands.specs.SetFiles.{Sharing}
@@ -23,7 +23,7 @@ use Rattle.input_files.specs.Outcomes.{Input}
 use Rattle.database_commands.specs.Lsas.{MayLsas}
 use Rattle.database_commands.specs.Routes.{MayRoute}
 use Rattle.design_commands.specs.TotalRuns.{IsShownUndecidedTotal, MayTotal}
-use Rattle.designer_command.specs.Completeness.{CannotBeUndecided, CannotBeUndecidedOnSharing, CannotBeUndecidedOnTotal, ConflictsAreFound, IdentifiedInputIsWritten, IsRunSettled, IsSpreadSettled, KnownRoutersAreRouted, SpreadsAreFound, TotalsAreFound}
+use Rattle.designer_command.specs.Completeness.{IsSufficient, IsSufficientForSharing, IsSufficientForTotal, ConflictsAreFound, IdentifiedInputIsWritten, IsRunSettled, IsSpreadSettled, KnownRoutersAreRouted, SpreadsAreFound, TotalsAreFound}
 use Rattle.designer_command.proofs.CompletenessLaws.{best_settles, never_undecided, none_settles}
 use Rattle.designer_command.proofs.OwnStatuses.{only_done, own_conflict, own_lsas, own_route, own_spread, own_total, said_end}
 
@@ -32,24 +32,24 @@ use Rattle.designer_command.proofs.OwnStatuses.{only_done, own_conflict, own_lsa
 pub done_undecided : status.Done ≡ status.Undecided → ⊥
 done_undecided is = cc
 
-unknown_conflict : (limits : SearchLimits) (p : DesignProblem) (bytes : List ℕ) → CannotBeUndecidedOnSets p limits.top limits.nodes →
+undecided_conflict : (limits : SearchLimits) (p : DesignProblem) (bytes : List ℕ) → IsSufficientForSets p limits.top limits.nodes →
     ShowsConflict limits p status.Undecided bytes → ⊥
-unknown_conflict limits p bytes cannot shown = by_found shown.conflict shown.found shown.status
+undecided_conflict limits p bytes cannot shown = by_found shown.conflict shown.found shown.status
   where
     by_found : (conflict : Conflict) → IsConflictFound p limits.top limits.nodes conflict → conflicts.conflict_status conflict ≡ status.Undecided → ⊥
-    by_found (Fits w) found is = done_undecided is
-    by_found (Core members rows tree without) found is = done_undecided is
-    by_found (NoConflictKnown members rows tree) found is =
-        conflict_settles p limits.top limits.nodes (NoConflictKnown members rows tree) cannot found
+    by_found (FitForAll w) found is = done_undecided is
+    by_found (LeastConflict members rows tree without) found is = done_undecided is
+    by_found (ConflictUndecided members rows tree) found is =
+        conflict_settles p limits.top limits.nodes (ConflictUndecided members rows tree) cannot found
 
 pub conflicts_found : ConflictsAreFound
 conflicts_found limits names came d end bytes ends h =
     said_end _ (MayConflict limits) came d end bytes (λ s. ((s ≡ status.Done) ⊎ (s ≡ status.Undecided))
-    × (CannotBeUndecidedOnSets d.problem limits.top limits.nodes → s ≡ status.Done)) (own_conflict limits)
+    × (IsSufficientForSets d.problem limits.top limits.nodes → s ≡ status.Done)) (own_conflict limits)
     (record {
       done = λ h. (inl refl, λ cannot. refl);
       impossible = λ h. absurd h;
-      undecided = λ h. (inr refl, λ cannot. absurd (unknown_conflict limits d.problem bytes cannot h));
+      undecided = λ h. (inr refl, λ cannot. absurd (undecided_conflict limits d.problem bytes cannot h));
       rejected = λ h. absurd h;
     }) ends h
 
@@ -59,15 +59,15 @@ IsFound s = (s ≡ status.Done) ⊎ (s ≡ status.Impossible) ⊎ (s ≡ status.
 
 -- `total`
 
-unknown_total : (limits : SearchLimits) (d : Input) (bytes : List ℕ) → CannotBeUndecidedOnTotal limits d.problem → IsShownUndecidedTotal limits d bytes → ⊥
-unknown_total limits d bytes cannot shown =
+undecided_total : (limits : SearchLimits) (d : Input) (bytes : List ℕ) → IsSufficientForTotal limits d.problem → IsShownUndecidedTotal limits d bytes → ⊥
+undecided_total limits d bytes cannot shown =
     cannot shown.designed.costs shown.bound shown.rows shown.tree shown.designed.best shown.sheet.true_rows
     shown.used_up.printed.earnest shown.used_up.undone shown.used_up.used_up
 
 pub totals_found : TotalsAreFound
 totals_found limits names came d end bytes ends h =
     said_end _ (MayTotal limits) came d end bytes (λ s. IsFound s
-    × (CannotBeUndecided limits d.problem → CannotBeUndecidedOnTotal limits d.problem → IsRunSettled d.problem s)) (own_total limits)
+    × (IsSufficient limits d.problem → IsSufficientForTotal limits d.problem → IsRunSettled d.problem s)) (own_total limits)
     (record {
       done = λ h. (inl refl, λ cannot none. best_settles d.problem h.designed.costs h.designed.best);
       impossible = λ h. (inr (inl refl), λ cannot none. none_settles d.problem h.none);
@@ -76,7 +76,7 @@ totals_found limits names came d end bytes ends h =
         λ cannot none.
             absurd (elim h [
               | inl shown ↦ never_undecided limits d.problem bytes cannot shown
-              | inr shown ↦ unknown_total limits d bytes none shown
+              | inr shown ↦ undecided_total limits d bytes none shown
             ]),
       );
       rejected = λ h. absurd h;
@@ -106,7 +106,7 @@ fit_settles limits sharing bytes shown = by_found shown.spread shown.found shown
         spreads.spread_status spread ≡ status.Done → IsSpreadSettled sharing status.Done
     by_found (Fit w) found is = record { sets = shown.sets; said = shown.said; either = inl refl; fit = λ v fits. refl; unfit = λ none. absurd (none w found) }
     by_found (NoSpread rows tree) found is = absurd (impossible_done is)
-    by_found (NoSpreadKnown rows tree) found is = absurd (undecided_done is)
+    by_found (SpreadUndecided rows tree) found is = absurd (undecided_done is)
 
 none_fit_settles : (limits : SearchLimits) (sharing : Sharing) (bytes : List ℕ) →
     ShowsSpread limits sharing status.Impossible bytes → IsSpreadSettled sharing status.Impossible
@@ -123,27 +123,28 @@ none_fit_settles limits sharing bytes shown = by_found shown.spread shown.found 
           fit = λ v fits. absurd (found.2 v fits);
           unfit = λ none. refl;
         }
-    by_found (NoSpreadKnown rows tree) found is = absurd (undecided_impossible is)
+    by_found (SpreadUndecided rows tree) found is = absurd (undecided_impossible is)
 
-unknown_spread : (limits : SearchLimits) (sharing : Sharing) (bytes : List ℕ) → CannotBeUndecidedOnSharing limits sharing →
+undecided_spread : (limits : SearchLimits) (sharing : Sharing) (bytes : List ℕ) → IsSufficientForSharing limits sharing →
     ShowsSpread limits sharing status.Undecided bytes → ⊥
-unknown_spread limits sharing bytes cannot shown = by_found shown.spread shown.found shown.status
+undecided_spread limits sharing bytes cannot shown = by_found shown.spread shown.found shown.status
   where
-    by_found : (spread : Spread) → IsSpreadFound sharing.input.problem shown.sets limits.top limits.nodes spread → spreads.spread_status spread ≡ status.Undecided → ⊥
+    by_found : (spread : Spread) → IsSpreadFound sharing.input.problem shown.sets limits.top limits.nodes spread →
+        spreads.spread_status spread ≡ status.Undecided → ⊥
     by_found (Fit w) found is = done_undecided is
     by_found (NoSpread rows tree) found is = impossible_undecided is
-    by_found (NoSpreadKnown rows tree) found is =
-        spread_settles sharing.input.problem shown.sets limits.top limits.nodes (NoSpreadKnown rows tree) (cannot shown.sets shown.said) found
+    by_found (SpreadUndecided rows tree) found is =
+        spread_settles sharing.input.problem shown.sets limits.top limits.nodes (SpreadUndecided rows tree) (cannot shown.sets shown.said) found
 
 pub spreads_found : SpreadsAreFound
 spreads_found limits names file came sharing end bytes ends h =
     said_end _ (MaySpread limits) came sharing end bytes
-    (λ s. IsFound s × (CannotBeUndecidedOnSharing limits sharing → IsSpreadSettled sharing s))
+    (λ s. IsFound s × (IsSufficientForSharing limits sharing → IsSpreadSettled sharing s))
     (own_spread limits)
     (record {
       done = λ h. (inl refl, λ cannot. fit_settles limits sharing bytes h);
       impossible = λ h. (inr (inl refl), λ cannot. none_fit_settles limits sharing bytes h);
-      undecided = λ h. (inr (inr refl), λ cannot. absurd (unknown_spread limits sharing bytes cannot h));
+      undecided = λ h. (inr (inr refl), λ cannot. absurd (undecided_spread limits sharing bytes cannot h));
       rejected = λ h. absurd h;
     }) ends h
 

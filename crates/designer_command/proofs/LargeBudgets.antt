@@ -1,7 +1,6 @@
 -- A budget of about twice as many entries as there are points can't be used up.
-use Rattle.std.proofs.Common.{◌≡◌, ℕ, suc, ◌+◌, ◌-◌, ◌*◌, ◌<◌, ◌≤◌, sym, ◌∙◌, ap, subst, arith, List, [], ◌∷◌, length, map}
+use Rattle.std.proofs.Common.{◌≡◌, ℕ, suc, ◌+◌, ◌-◌, ◌<◌, ◌≤◌, sym, ◌∙◌, ap, subst, arith, List, [], ◌∷◌, length, map}
 use Rattle.std.specs.Prelude.{slice_index, min, All, Contains, Option, None, Some}
-use Rattle.std.proofs.Math.Nat.{mul-le-mul_left, mul-le-mul_right}
 use Rattle.std.proofs.lemmas.List.{length-map, get_or-map}
 use Rattle.design_problem.specs.declared.form.Form.{Form}
 use Rattle.design_problem.specs.declared.tree.Entry.{Entry}
@@ -14,26 +13,23 @@ use Rattle.design_problem.specs.Answers.{greatest_bound}
 use Rattle.design_problem.proofs.ProblemTrees.{le_greatest}
 use Rattle.design_problem.proofs.TreeShapes.{few_entries}
 use Rattle.printed_rows.proofs.CapBoxes.{capped_box}
-use Rattle.command_words.specs.Jobs.{SearchLimits}
-use Rattle.conflict_core.proofs.LargeBudgets.{large_suffice as conflict_large}
+use Rattle.wide_fraction.specs.SearchLimits.{SearchLimits}
+use Rattle.least_conflict.proofs.LargeBudgets.{large_suffice as conflict_large}
 use Rattle.spread_sets.proofs.PrintedSets.{large_suffice as spread_large}
 use Rattle.least_total.specs.Totals.{forms_within}
 use Rattle.least_total.proofs.RoundLaws.{lows_below}
 use Rattle.cost_base.specs.Histories.{Taken}
-use Rattle.text_lines.specs.LineFaults.{FaultyLine}
-use Rattle.set_reader.specs.declared.fault.SetFault.{SetFault}
+use Rattle.set_reader.specs.FaultNumbers.{set_fault_number}
 use Rattle.set_reader.specs.Reading.{set_fault}
 use Rattle.input_files.specs.declared.problem.View.TheVariants.{AsRequested}
 use Rattle.input_files.specs.Inputs.{InputFiles}
-use Rattle.input_files.specs.Readings.{EndsAs, Says}
+use Rattle.input_files.specs.Readings.{EndsAs, Says, line_refused}
 use Rattle.input_files.specs.Outcomes.{Input, outcome}
-use Rattle.input_files.proofs.Readings.{one_said, said_faulty, was_read}
+use Rattle.input_files.proofs.Readings.{said_unless, was_read}
 use Rattle.input_files.proofs.ReadyInputs.{came_whole, ready_is}
-use Rattle.path_commands.specs.SetFiles.{Sharing, if_sets, sets_read, spread_read}
-use Rattle.designer_command.specs.Completeness.{IsLarge, LargeBudgetIsEnough, LargeBudgetsSuffice}
-
-product_le : (a b c d : ℕ) → a ≤ b → c ≤ d → a * c ≤ b * d
-product_le a b c d first second = omega (arith, mul-le-mul_right c first, mul-le-mul_left b second)
+use Rattle.least_change.proofs.InBoxes.{product_le}
+use Rattle.path_commands.specs.SetFiles.{Sharing, sets_said, sets_read, spread_read}
+use Rattle.designer_command.specs.Completeness.{IsLarge, LargeBudgetIsSufficient, LargeBudgetsSuffice}
 
 -- higher ends, more points
 points_of-le : (ls hs ks : List ℕ) → length hs ≡ length ks → ((k : ℕ) → k < length hs → slice_index hs k ≤ slice_index ks k) → points_of ls hs ≤ points_of ls ks
@@ -63,11 +59,11 @@ never_used_up : (limits : SearchLimits) (p : DesignProblem) (cap : ℕ) (forms :
     IsLarge limits p → All (λ low. low ≤ cap) p.low → IsSoundTree forms (capped (box_of p) cap) tree → Contains tree Undone →
     entry_count tree ≡ limits.nodes → ⊥
 never_used_up limits p cap forms tree kept large no_higher sound undone used_up =
-    let few = (few_entries (length p.low) forms (capped (box_of p) cap) tree (capped_box p cap kept no_higher) sound).unfinished undone in
+    let few = (few_entries (length p.low) forms (capped (box_of p) cap) tree (capped_box p cap kept no_higher) sound).undecided undone in
     omega (arith, few, large, used_up, capped-le p cap)
 
 -- for a problem a large budget is enough
-enough : (limits : SearchLimits) (p : DesignProblem) → IsProblem p → IsLarge limits p → LargeBudgetIsEnough limits p
+enough : (limits : SearchLimits) (p : DesignProblem) → IsProblem p → IsLarge limits p → LargeBudgetIsSufficient limits p
 enough limits p kept large = record {
   design = λ cap rows tree no_higher true_rows earnest undone used_up.
       never_used_up limits p cap (forms_of_rows p rows) tree kept large no_higher earnest.sound undone used_up;
@@ -78,18 +74,12 @@ enough limits p kept large = record {
 }
 
 -- the input that is read before a file of sets
-sets_of : (file bytes : List ℕ) (d : Input) (o : Option (FaultyLine SetFault)) (came : List Taken) (sharing : Sharing) →
-    EndsAs (if_sets file d bytes o) came (Says sharing) → sharing.input ≡ d
-sets_of file bytes d (Some faulty) [] sharing is = absurd (said_faulty sharing _ is)
-sets_of file bytes d (Some faulty) (taken ∷ more) sharing is = absurd is
-sets_of file bytes d None [] sharing is = ap (λ (s : Sharing). s.input) (one_said sharing (record { input = d; bytes = bytes }) is)
-sets_of file bytes d None (taken ∷ more) sharing is = absurd is
-
 sharing_of : (file : List ℕ) (d : Input) (came : List Taken) (sharing : Sharing) → EndsAs (sets_read file d) came (Says sharing) → sharing.input ≡ d
 sharing_of file d [] sharing is = absurd is
 sharing_of file d (taken ∷ more) sharing is =
-    came_whole taken.came (λ bytes. if_sets file d bytes (set_fault d.problem bytes)) more sharing file is.2
-    (λ bytes ends. sets_of file bytes d (set_fault d.problem bytes) more sharing ends)
+    came_whole taken.came (λ bytes. sets_said file d bytes) more sharing file is.2
+    (λ bytes ends. ap (λ (s : Sharing). s.input)
+    (said_unless (line_refused set_fault_number file) (record { input = d; bytes = bytes }) sharing (set_fault d.problem bytes) more ends).1)
 
 sharing_kept : (names : InputFiles) (file : List ℕ) (came : List Taken) (sharing : Sharing) →
     EndsAs (spread_read names file) came (Says sharing) → IsProblem sharing.input.problem

@@ -3,7 +3,7 @@ use Rattle.std.proofs.Common.{◌≡◌, ℕ, refl, subst, List}
 use Rattle.cost_base.specs.declared.Status.{Status}
 use Rattle.cost_base.specs.declared.Status.TheVariants as status
 use Rattle.cost_base.specs.Histories.{Taken}
-use Rattle.command_words.specs.Jobs.{SearchLimits}
+use Rattle.wide_fraction.specs.SearchLimits.{SearchLimits}
 use Rattle.input_files.specs.Readings.{Reading, Says, Faulty, Failed, EndsAs}
 use Rattle.input_files.proofs.Readings.{one_end, one_said, said_faulty, said_failed}
 use Rattle.database_commands.specs.Compares.{MayCompare}
@@ -144,7 +144,8 @@ pub said_end : {A : Type 0} (reading : Reading A) (may : A → Status → List �
     EndsAs reading came (Says x) → MayAfter reading may came end bytes → Wanted end
 said_end reading may came x end bytes Wanted own fits ends h = own_end may x end bytes Wanted own fits (says_so reading may came x end bytes ends h)
 
--- where it may neither find its problem impossible nor leave it undecided nor reject what it is given, it ends with Done
+-- where it may neither find its problem impossible nor leave it undecided nor reject what it is given, it ends with
+-- Done
 pub only_done : {A : Type 0} (reading : Reading A) (may : A → Status → List ℕ → Type 0) (came : List Taken) (x : A)
     (end : Status) (bytes : List ℕ) → SaysItsOwn may →
     (may x status.Impossible bytes → ⊥) → (may x status.Undecided bytes → ⊥) →

@@ -29,7 +29,7 @@ use Rattle.evidence_commands.specs.Checks.{MayCheck}
 use Rattle.evidence_commands.specs.Rewrites.{MayRewrite}
 use Rattle.design_commands.specs.Designs.{MayDesign}
 use Rattle.change_commands.specs.Changes.{MayChange}
-use Rattle.change_commands.specs.Plans.{plan_read}
+use Rattle.change_commands.specs.WantedMoves.{steps_read}
 use Rattle.change_commands.specs.Steps.{MaySteps}
 use Rattle.design_commands.specs.TotalRuns.{MayTotal}
 use Rattle.trial_maker.specs.TrialTexts.{made_trial}
@@ -162,13 +162,13 @@ files_made Given reading may made names other same a =
 -- so do steps by words that say the same
 pub steps_made : (Given : List Taken → Type 0) (names other : InputFiles) (answer said : List ℕ) (nodes most : ℕ) (by step : StepUnit)
     (made : Result Report Stop) → names ≡ other → answer ≡ said → nodes ≡ most → by ≡ step →
-    Gave Given (λ came. IsReadAs (plan_read names answer) came (MayReport (MaySteps nodes by)) made) →
-    Gave Given (λ came. IsReadAs (plan_read other said) came (MayReport (MaySteps most step)) made)
+    Gave Given (λ came. IsReadAs (steps_read names answer) came (MayReport (MaySteps nodes by)) made) →
+    Gave Given (λ came. IsReadAs (steps_read other said) came (MayReport (MaySteps most step)) made)
 steps_made Given names other answer said nodes most by step made named answered counted stepped a =
-    subst (λ (s : StepUnit). Gave Given (λ came. IsReadAs (plan_read other said) came (MayReport (MaySteps most s)) made)) stepped
-    (subst (λ (n : ℕ). Gave Given (λ came. IsReadAs (plan_read other said) came (MayReport (MaySteps n by)) made)) counted
-    (subst (λ (bytes : List ℕ). Gave Given (λ came. IsReadAs (plan_read other bytes) came (MayReport (MaySteps nodes by)) made)) answered
-    (files_made Given (λ files. plan_read files answer) (MaySteps nodes by) made names other named a)))
+    subst (λ (s : StepUnit). Gave Given (λ came. IsReadAs (steps_read other said) came (MayReport (MaySteps most s)) made)) stepped
+    (subst (λ (n : ℕ). Gave Given (λ came. IsReadAs (steps_read other said) came (MayReport (MaySteps n by)) made)) counted
+    (subst (λ (bytes : List ℕ). Gave Given (λ came. IsReadAs (steps_read other bytes) came (MayReport (MaySteps nodes by)) made)) answered
+    (files_made Given (λ files. steps_read files answer) (MaySteps nodes by) made names other named a)))
 
 -- statuses with which no whole text is written
 abbrev pub WritesNone : (Status → List ℕ → Type 0) → Type 0

@@ -1,4 +1,4 @@
 pub mod Usage
 pub mod Runs
-pub mod Asking
+pub mod AdvisorsAsked
 pub mod Completeness

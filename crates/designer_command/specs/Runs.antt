@@ -27,7 +27,7 @@ use Rattle.path_commands.specs.LiveAudits.{MayAuditLive, live_audit_read}
 use Rattle.path_commands.specs.SetFiles.{spread_read}
 use Rattle.path_commands.specs.Spreads.{MaySpread}
 use Rattle.change_commands.specs.Changes.{MayChange}
-use Rattle.change_commands.specs.Plans.{plan_read}
+use Rattle.change_commands.specs.WantedMoves.{steps_read}
 use Rattle.change_commands.specs.Steps.{MaySteps}
 use Rattle.help_texts.specs.Texts.{help_text, version_text}
 use Rattle.designer_command.specs.Usage.{usage}
@@ -97,7 +97,7 @@ MayWrite (Some (Spread s sets)) came status bytes = MayAfter (spread_read (searc
 MayWrite (Some (Total s)) came status bytes = MayAfter (outcome AsRequested (searched s)) (MayTotal s.limits) came status bytes
 MayWrite (Some (Change s)) came status bytes = MayAfter (outcome BesidePresent (searched s)) (MayChange s.limits) came status bytes
 MayWrite (Some (Steps request answer nodes by configs)) came status bytes =
-    MayAfter (plan_read (input_files_of request configs) answer) (MaySteps nodes by) came status bytes
+    MayAfter (steps_read (input_files_of request configs) answer) (MaySteps nodes by) came status bytes
 MayWrite (Some (Compare live request configs)) came status bytes =
     MayAfter (compare_read (input_files_of request configs) live) MayCompare came status bytes
 MayWrite (Some (Lsas request configs)) came status bytes = MayAfter (identified_read (input_files_of request configs)) MayLsas came status bytes
@@ -132,7 +132,7 @@ IsMadeAs (Spread s sets) came made = IsReadAs (spread_read (searched s) sets) ca
 IsMadeAs (Total s) came made = IsReadAs (outcome AsRequested (searched s)) came (MayReport (MayTotal s.limits)) made
 IsMadeAs (Change s) came made = IsReadAs (outcome BesidePresent (searched s)) came (MayReport (MayChange s.limits)) made
 IsMadeAs (Steps request answer nodes by configs) came made =
-    IsReadAs (plan_read (input_files_of request configs) answer) came (MayReport (MaySteps nodes by)) made
+    IsReadAs (steps_read (input_files_of request configs) answer) came (MayReport (MaySteps nodes by)) made
 IsMadeAs (Compare live request configs) came made =
     IsReadAs (compare_read (input_files_of request configs) live) came (MayReport MayCompare) made
 IsMadeAs (Lsas request configs) came made = IsReadAs (identified_read (input_files_of request configs)) came (MayReport MayLsas) made
@@ -152,7 +152,7 @@ MayWant (Some (Conflict s)) came = Begins (outcome AsRequested (searched s)) cam
 MayWant (Some (Spread s sets)) came = Begins (spread_read (searched s) sets) came
 MayWant (Some (Total s)) came = Begins (outcome AsRequested (searched s)) came
 MayWant (Some (Change s)) came = Begins (outcome BesidePresent (searched s)) came
-MayWant (Some (Steps request answer nodes by configs)) came = Begins (plan_read (input_files_of request configs) answer) came
+MayWant (Some (Steps request answer nodes by configs)) came = Begins (steps_read (input_files_of request configs) answer) came
 MayWant (Some (Compare live request configs)) came = Begins (compare_read (input_files_of request configs) live) came
 MayWant (Some (Lsas request configs)) came = Begins (identified_read (input_files_of request configs)) came
 MayWant (Some (Route lsas from to)) came = Begins (route_read lsas from to) came
@@ -183,8 +183,8 @@ pub record WritesNothing (handed : List ℕ → Type 0) (got_before got_now : Op
   pub written : handed []
   pub same : got_now ≡ got_before
 
--- How a run ends of which it is known what it may write: `handed` tells what the sink was handed, and it got that where it
--- tells its bytes.
+-- How a run ends of which it is known what it may write: `handed` tells what the sink was handed, and it got that where
+-- it tells its bytes.
 abbrev pub Writes : (Status → List ℕ → Type 0) → (List ℕ → Type 0) → Option (List ℕ) → Option (List ℕ) → ℕ → ℕ → Status → Type 0
 Writes may handed got_before got_now count_before count_now WriteFault = WritesPart may handed got_before got_now count_before count_now
 Writes may handed got_before got_now count_before count_now OutOfMemory = WritesNothing handed got_before got_now
@@ -203,7 +203,8 @@ MayWriteAsking may asked status bytes = may status bytes × asked bytes
 -- A run of these words: this came of the files that the shelf was asked for, true to what it holds and to its counts of
 -- faults, and what was written is right for that. `Asked` tells by which searches of what came a job asks the advisors
 -- before it writes these bytes.
-pub record RunMeets (words : List (List ℕ)) (Asked : Option JobRead → List Taken → List ℕ → Type 0) (gave : List Taken → Type 0) (held : List ℕ → Option (List ℕ))
+pub record RunMeets (words : List (List ℕ)) (Asked : Option JobRead → List Taken → List ℕ → Type 0) (gave : List Taken → Type 0)
+    (held : List ℕ → Option (List ℕ))
     (before now : List ℕ → ℕ) (handed : List ℕ → Type 0) (got_before got_now : Option (List ℕ))
     (count_before count_now : ℕ) (status : Status) : Type 0 where
   pub came : List Taken

@@ -4,7 +4,7 @@ ghost use Rattle.text_lines.specs.Arguments.{texts};
 ghost use Rattle.designer_command.specs.Completeness.{ChangesAreFound, ConflictsAreFound, DesignsAreAccepted, DifferencesAreWritten, HeadedCostsAreWritten, HelpIsWritten};
 ghost use Rattle.designer_command.specs.Completeness.{IdentifiedInputIsWritten, KnownRoutersAreRouted, LargeBudgetsSuffice, RunningAreaIsAudited, TrialsAreDesigned, SpreadsAreFound, StepsAreFound, TotalsAreFound};
 ghost use Rattle.designer_command.specs.Completeness.{ValidAnswersAreAccepted, WellFormedInputIsAudited, WellFormedInputIsDesigned};
-ghost use Rattle.designer_command.specs.Asking.{AreAskedBy};
+ghost use Rattle.designer_command.specs.AdvisorsAsked.{AreAskedBy};
 ghost use Rattle.designer_command.specs.Runs.{RunMeets};
 
 use crate::run;

@@ -1,13 +1,13 @@
 //! From a job to its report: each command's function stands in the crate of its kind.
 ghost use Rattle.std.specs.Prelude.{◌≡◌, ◌≤◌, ◌<◌, ◌^◌, [], IfOk, Some, option_map, string_bytes};
-ghost use Rattle.form_search.specs.Advised.{AreCalled};
+ghost use Rattle.form_search.specs.AdvisorsAsked.{AreCalled};
 ghost use Rattle.text_lines.specs.Arguments.{texts};
-ghost use Rattle.command_words.specs.Jobs.{Audit, IsInRange, Spread, Trial, search_seen, seen};
+ghost use Rattle.command_words.specs.Jobs.{Audit, IsInRange, Spread, Steps, Trial, search_seen, seen};
 ghost use Rattle.help_texts.specs.Texts.{help_text, version_text};
 ghost use Rattle.input_files.specs.Readings.{Gave};
 ghost use Rattle.input_files.specs.Stops.{files_named};
 ghost use Rattle.report_writer.specs.Reports.{bytes_in};
-ghost use Rattle.designer_command.specs.Asking.{AreAskedBy, IsMadeAsking};
+ghost use Rattle.designer_command.specs.AdvisorsAsked.{AreAskedBy, IsMadeAsking};
 ghost use Rattle.designer_command.specs.Runs.{IsMadeAs, IsTold, IsTried, input_files_of, searched};
 
 use change_commands::{StepsWords, change_report, steps_report};
@@ -38,7 +38,7 @@ fn words<'a>(search: &'a Search) -> FileWords<'a>
 }
 
 /// What `steps` is asked besides its network.
-fn steps_words<'a>(answer: &'a str, nodes: u32, by: StepUnit) -> StepsWords<'a>
+fn wanted<'a>(answer: &'a str, nodes: u32, by: StepUnit) -> StepsWords<'a>
     ensures answer { result.answer.now ≡ answer.now }
     ensures nodes { result.nodes ≡ nodes }
     ensures by { result.by ≡ by }
@@ -97,6 +97,21 @@ fn made_audit<'a, S: Shelf>(
         Some(live) => audit_live_report(alloc, files(request, configs), live, shelf),
         None => audit_report(alloc, files(request, configs), shelf),
     }
+}
+
+/// What `steps` makes of a request file, what it is asked besides, and configurations.
+fn made_steps<'a, S: Shelf>(
+    alloc: Global,
+    request: &'a str,
+    wanted: StepsWords<'a>,
+    configs: &'a [String],
+    shelf: &mut S,
+) -> Result<Report, Stop<'a>>
+    ensures { Gave (S.gave shelf.old shelf.new) (λ came. IsMadeAs
+        (Steps request.now wanted.entry.answer.now wanted.entry.nodes wanted.entry.by (texts configs.now))
+        came result) }
+{
+    steps_report(alloc, files(request, configs), wanted, shelf)
 }
 
 /// What `help` makes: no file is read.
@@ -160,10 +175,7 @@ pub(crate) fn job_report<'a, S: Shelf>(
             nodes,
             by,
             configs,
-        } => {
-            let steps = steps_words(answer, *nodes, *by);
-            steps_report(alloc, files(request, configs), steps, shelf)
-        }
+        } => made_steps(alloc, request, wanted(answer, *nodes, *by), configs, shelf),
         Job::Compare {
             live,
             request,

@@ -3,8 +3,8 @@
 
 pub mod completeness;
 mod dispatch;
-mod edge;
+mod exit_and_record;
 mod top_call;
 
-pub use edge::{recorded_run, run_to_exit};
+pub use exit_and_record::{recorded_run, run_to_exit};
 pub use top_call::run;

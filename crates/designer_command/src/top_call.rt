@@ -1,10 +1,10 @@
 //! The top call.
 ghost use Rattle.std.specs.Prelude.{◌≡◌, ℕ, List, MatchResult};
-ghost use Rattle.form_search.specs.Advised.{AreCalled};
+ghost use Rattle.form_search.specs.AdvisorsAsked.{AreCalled};
 ghost use Rattle.text_lines.specs.Arguments.{texts};
 ghost use Rattle.report_writer.specs.Cutting.{PutsByPieces, PutsPieces, size_of_piece};
 ghost use Rattle.report_writer.specs.Reports.{IsWritten, Reports, bytes_in};
-ghost use Rattle.designer_command.specs.Asking.{AreAskedBy};
+ghost use Rattle.designer_command.specs.AdvisorsAsked.{AreAskedBy};
 ghost use Rattle.designer_command.specs.Runs.{RunMeets};
 ghost use Rattle.designer_command.specs.Usage.{usage};
 

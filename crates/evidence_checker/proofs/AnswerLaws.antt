@@ -16,7 +16,7 @@ use Rattle.design_problem.specs.declared.answer.Floor.{Floor}
 use Rattle.design_problem.specs.declared.answer.Floor.TheVariants.{Absent, Empty, Var}
 use Rattle.design_problem.specs.declared.answer.CapTree.{CapTree}
 use Rattle.design_problem.specs.Forms.{Form}
-use Rattle.design_problem.specs.declared.form.CostBox.{CostBox}
+use Rattle.design_problem.specs.declared.boxes.CostBox.{CostBox}
 use Rattle.design_problem.specs.declared.form.Row.{Row}
 use Rattle.design_problem.specs.declared.problem.VarName.{VarName}
 use Rattle.design_problem.specs.declared.tree.Entry.{Entry}
@@ -72,7 +72,7 @@ claim_of p rows Impossible (Some costs) floor proof kept shape costs_hold holds 
 claim_of p rows (Undecided cap) costs floor proof kept shape costs_hold holds = absurd shape
 
 pub valid_of : (p : DesignProblem) (a : AnswerParts) → IsProblem p → ShapeOfClaim p a.verdict a.costs a.floor a.proof
-    × (a.unfinished ≡ None) → CostsHold p a.verdict a.costs a.floor → All (IsRow p) a.rows →
+    × (a.undecided ≡ None) → CostsHold p a.verdict a.costs a.floor → All (IsRow p) a.rows →
     ProofHolds p a.rows a.proof → IsValid p a
 valid_of p a kept shape costs_hold true_rows holds = record {
   rows = true_rows;
@@ -191,14 +191,17 @@ lines_fail forms (box ∷ boxes) place (entry ∷ entries) f sound closed failed
 
 proof_fails : (p : DesignProblem) (rows : List Row) (proof : Option CapTree) → ProofHolds p rows proof → NoneOf (proof_tests p rows proof)
 proof_fails p rows None holds = tt
-proof_fails p rows (Some proof) holds = (λ f failed. lines_fail (forms_of_rows p rows) (capped (box_of p) proof.cap ∷ []) 0 proof.tree f holds.0 holds.1 failed, tt)
+proof_fails p rows (Some proof) holds = (
+  λ f failed. lines_fail (forms_of_rows p rows) (capped (box_of p) proof.cap ∷ []) 0 proof.tree f holds.0 holds.1 failed,
+  tt,
+)
 
 -- the tests before those of the rows
 abbrev pub EarlyTests : DesignProblem → AnswerParts → List (FailedTest → Type 0)
 EarlyTests p a = AtNoPlace 49 (ClaimsNothing a.verdict) ∷ AtNoPlace 51 (HasWrongShape p a) ∷ cost_tests p a.verdict a.costs a.floor
 
 early_fail : (p : DesignProblem) (a : AnswerParts) → IsProblem p → (ClaimsNothing a.verdict → ⊥) →
-    ShapeOfClaim p a.verdict a.costs a.floor a.proof × (a.unfinished ≡ None) → CostsHold p a.verdict a.costs a.floor →
+    ShapeOfClaim p a.verdict a.costs a.floor a.proof × (a.undecided ≡ None) → CostsHold p a.verdict a.costs a.floor →
     NoneOf (EarlyTests p a)
 early_fail p a kept claims shape holds =
     (λ f failed. claims failed.2, (λ f failed. failed.2 shape, costs_fail p a.verdict a.costs a.floor kept holds))
@@ -225,7 +228,7 @@ accepted_claims (Undecided cap) accepted is nothing = is
 
 -- a test of the costs, after the verdict and the shape
 pub stops_costs : (p : DesignProblem) (a : AnswerParts) (accepted : Accepted) (s : Refusal CheckFault ℕ) →
-    IsAcceptedAs a.verdict accepted → ShapeOfClaim p a.verdict a.costs a.floor a.proof × (a.unfinished ≡ None) →
+    IsAcceptedAs a.verdict accepted → ShapeOfClaim p a.verdict a.costs a.floor a.proof × (a.undecided ≡ None) →
     StopsBy (cost_tests p a.verdict a.costs a.floor) s → StopsBy (tests p a) s
 stops_costs p a accepted s is shape stops =
     let costs = cost_tests p a.verdict a.costs a.floor in
@@ -236,7 +239,7 @@ stops_costs p a accepted s is shape stops =
 
 -- a test of the rows or of the proof, after all others
 pub stops_evidence : (p : DesignProblem) (a : AnswerParts) (accepted : Accepted) (s : Refusal CheckFault ℕ) → IsProblem p →
-    IsAcceptedAs a.verdict accepted → ShapeOfClaim p a.verdict a.costs a.floor a.proof × (a.unfinished ≡ None) →
+    IsAcceptedAs a.verdict accepted → ShapeOfClaim p a.verdict a.costs a.floor a.proof × (a.undecided ≡ None) →
     CostsHold p a.verdict a.costs a.floor →
     StopsBy (AtFirstItem (row_tests p) 0 a.rows ∷ proof_tests p a.rows a.proof) s → StopsBy (tests p a) s
 stops_evidence p a accepted s kept is shape holds stops =

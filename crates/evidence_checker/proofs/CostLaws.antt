@@ -1,13 +1,15 @@
 -- The costs that the lines give the variables.
-use Rattle.std.proofs.Common.{◌≡◌, ℕ, zero, suc, ◌+◌, ◌<◌, ◌≤◌, refl, sym, ◌∙◌, ap, subst, List, [], ◌∷◌, length, get_or, drop, replicate, arith, inl, inr, add-one, drop-cons}
+use Rattle.std.proofs.Common.{◌≡◌, ℕ, zero, suc, ◌+◌, ◌<◌, ◌≤◌, refl, sym, ◌∙◌, ap, subst, List, [], ◌∷◌, length, get_or, drop, replicate, arith, inl, inr}
 use Rattle.std.specs.Prelude.{slice_index, ◌⊎◌, Option, Some, None, All}
 use Rattle.std.specs.List.{AllZip}
 use Rattle.std.proofs.lemmas.List.{length-replicate}
 use native.Mathlib.Decide.{ℕ_discrete}
 use Rattle.std.proofs.lemmas.List.Elements.{All-tail}
+use Rattle.std.proofs.lemmas.Option.{same_Some}
+use Rattle.cost_base.proofs.ListLemmas.{drop_read}
 use Rattle.design_problem.specs.declared.answer.CostLine.{CostLine}
 use Rattle.design_problem.specs.declared.problem.VarName.{VarName}
-use Rattle.design_problem.specs.Answers.{Names}
+use Rattle.design_problem.specs.Answers.{CostLinesOf}
 use Rattle.design_problem.specs.Problems.{DesignProblem}
 use Rattle.evidence_checker.specs.Refusals.{IsFirstPlace}
 use Rattle.design_problem.specs.GivenCosts.{GivesCost, written, costs_given}
@@ -61,11 +63,6 @@ none_some var e = cc
 pub off_begins : (costs : List ℕ) (names : List VarName) (lines : List CostLine) → LeastOff costs names lines 0 None
 off_begins costs names lines = record { found = λ var e. absurd (none_some var e); others = λ var off. inr off }
 
-read : {X : Type 0} (xs : List X) (k : ℕ) (x : X) → k < length xs → x ≡ get_or xs k x → drop k xs ≡ x ∷ drop (k + 1) xs
-read {X} xs k x k_in e =
-    let split : drop k xs ≡ get_or xs k x ∷ drop (k + 1) xs = rw (add-one, drop-cons xs k x) refl in
-    split ∙ ap (λ (y : X). y ∷ drop (k + 1) xs) (sym e)
-
 given_nil : (names : List VarName) (var c : ℕ) → GivesCost names [] var c → ⊥
 given_nil [] var c given = given
 given_nil (name ∷ names) var c given = given
@@ -94,9 +91,6 @@ lesser_most : (least : Option ℕ) (v : ℕ) → lesser_of least v ≤ v
 lesser_most None v = omega arith
 lesser_most (Some least) v = omega arith
 
-some_same : (a b : ℕ) → Some a ≡ Some b → a ≡ b
-some_same a b e = cc
-
 min_cases : (least v : ℕ) → (lesser_of (Some least) v ≡ least) ⊎ (lesser_of (Some least) v ≡ v)
 min_cases least v = grind arith
 
@@ -114,15 +108,15 @@ pub off_more : (costs : List ℕ) (names : List VarName) (lines : List CostLine)
     line ≡ get_or lines k line → (line.cost ≡ slice_index costs name.var → ⊥) → LeastOff costs names lines k least →
     LeastOff costs names lines (k + 1) (Some (lesser_of least name.var))
 off_more costs names lines k least name line name_in line_in name_is line_is differs so_far =
-    let names_read = read names k name name_in name_is in
-    let lines_read = read lines k line line_in line_is in
+    let names_read = drop_read names k name name_in name_is in
+    let lines_read = drop_read lines k line line_in line_is in
     let given : GivesCost names lines name.var line.cost =
     given_later k names lines name.var line.cost
     (subst (λ (ls : List CostLine). GivesCost (drop k names) ls name.var line.cost) (sym lines_read)
     (subst (λ (ns : List VarName). GivesCost ns (line ∷ drop (k + 1) lines) name.var line.cost) (sym names_read) (inl (refl, refl)))) in
     let here : IsOff costs names lines name.var = (line.cost, given, differs) in
     record {
-      found = λ var e. subst (λ (v : ℕ). IsOff costs names lines v) (some_same _ _ e) (lesser_found (IsOff costs names lines) least name.var so_far.found here);
+      found = λ var e. subst (λ (v : ℕ). IsOff costs names lines v) (same_Some _ _ e) (lesser_found (IsOff costs names lines) least name.var so_far.found here);
       others = λ var off.
           elim (so_far.others var off) [
             | inl most ↦ inl (at_most_lesser least name.var var most)
@@ -142,8 +136,8 @@ pub off_same : (costs : List ℕ) (names : List VarName) (lines : List CostLine)
     line ≡ get_or lines k line → line.cost ≡ slice_index costs name.var → LeastOff costs names lines k least →
     LeastOff costs names lines (k + 1) least
 off_same costs names lines k least name line name_in line_in name_is line_is same so_far =
-    let names_read = read names k name name_in name_is in
-    let lines_read = read lines k line line_in line_is in
+    let names_read = drop_read names k name name_in name_is in
+    let lines_read = drop_read lines k line line_in line_is in
     record {
       found = so_far.found;
       others = λ var off.
@@ -219,7 +213,7 @@ names_given w (name ∷ names) (line ∷ lines) named none = (
 
 pub ends_equal : (p : DesignProblem) (xs : List VarName) (lines : List CostLine) (costs : List ℕ) → xs ≡ p.vars →
     All (λ name. name.var < length p.low) p.vars → NamesPlaces p.vars lines → costs ≡ costs_given p lines →
-    IsFirstPlace (HasUnequalEnds xs lines) None → Names p lines costs
+    IsFirstPlace (HasUnequalEnds xs lines) None → CostLinesOf costs p.vars lines
 ends_equal p xs lines costs same known named is none =
     let count = given_count (length p.low) costs p.vars lines is in
     names_given costs p.vars lines named
@@ -227,6 +221,6 @@ ends_equal p xs lines costs same known named is none =
     (off_unequal (length p.low) costs p.vars lines var
     (known_names (length p.low) p.vars p.vars costs refl count known) is off)))
 
-pub names_equal : (p : DesignProblem) (lines : List CostLine) (w : List ℕ) (var : ℕ) → Names p lines w → HasUnequalEnds p.vars lines var → ⊥
+pub names_equal : (p : DesignProblem) (lines : List CostLine) (w : List ℕ) (var : ℕ) → CostLinesOf w p.vars lines → HasUnequalEnds p.vars lines var → ⊥
 names_equal p lines w var names_lines unequal =
     unequal.4 (given_is w p.vars lines var unequal.0 names_lines unequal.2 ∙ sym (given_is w p.vars lines var unequal.1 names_lines unequal.3))

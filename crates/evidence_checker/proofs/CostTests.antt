@@ -8,7 +8,7 @@ use Rattle.design_problem.specs.declared.answer.Verdict.TheVariants.{Optimal}
 use Rattle.design_problem.specs.declared.answer.Costs.{Costs}
 use Rattle.design_problem.specs.declared.answer.CostLine.{CostLine}
 use Rattle.design_problem.specs.declared.answer.Floor.{Floor}
-use Rattle.design_problem.specs.Answers.{Names}
+use Rattle.design_problem.specs.Answers.{CostLinesOf}
 use Rattle.design_problem.specs.Boxes.{IsInBox}
 use Rattle.design_problem.specs.Problems.{DesignProblem, no_request}
 use Rattle.design_problem.specs.Rows.{box_of, greatest_cost}
@@ -42,7 +42,8 @@ moved p k costs floor lines w s lines_are given stops =
 no_places : (p : DesignProblem) (lines : List CostLine) → NamesPlaces p.vars lines → (f : FailedTest) → AtNoPlace 50 (NamesPlaces p.vars lines → ⊥) f → ⊥
 no_places p lines named f failed = failed.2 named
 
-no_ends : (p : DesignProblem) (lines : List CostLine) (w : List ℕ) → Names p lines w → (f : FailedTest) → AtFirst 53 (HasUnequalEnds p.vars lines) f → ⊥
+no_ends : (p : DesignProblem) (lines : List CostLine) (w : List ℕ) → CostLinesOf w p.vars lines → (f : FailedTest) →
+    AtFirst 53 (HasUnequalEnds p.vars lines) f → ⊥
 no_ends p lines w names_lines f failed = names_equal p lines w f.place names_lines failed.1
 
 inside : (p : DesignProblem) (w : List ℕ) (k : ℕ) → IsInBox (box_of p) w → IsOutside p.low p.high w k → ⊥
@@ -57,7 +58,7 @@ no_bounds p w within f failed = inside p w f.place within failed.1
 no_greatest : (k printed : ℕ) (w : List ℕ) → (printed ≡ k) × (greatest_cost w ≡ k) → (f : FailedTest) → AtNoPlace 47 (HasWrongGreatest k printed w) f → ⊥
 no_greatest k printed w same f failed = failed.2 same
 
-no_paths : (p : DesignProblem) (w : List ℕ) → All (IsOnlyAt p.graph w) p.paths → (f : FailedTest) → AtFirst 46 (IsNotOnly p w) f → ⊥
+no_paths : (p : DesignProblem) (w : List ℕ) → All (IsOnlyAt p.graph w) p.requests → (f : FailedTest) → AtFirst 46 (IsNotOnly p w) f → ⊥
 no_paths p w only f failed = failed.1.1 (only f.place no_request failed.1.0)
 
 no_floor : (p : DesignProblem) (k : ℕ) (floor : Floor) → (IsFalseFloor p k floor → ⊥) → (f : FailedTest) → AtNoPlace 52 (IsFalseFloor p k floor) f → ⊥
@@ -65,7 +66,7 @@ no_floor p k floor true_floor f failed = true_floor failed.2
 
 -- the first test that fails stands behind that of the bounds
 behind_bounds : (p : DesignProblem) (k printed : ℕ) (lines : List CostLine) (floor : Floor) (w : List ℕ) (f : FailedTest) →
-    NamesPlaces p.vars lines → Names p lines w → IsInBox (box_of p) w →
+    NamesPlaces p.vars lines → CostLinesOf w p.vars lines → IsInBox (box_of p) w →
     FirstOf (AtNoPlace 47 (HasWrongGreatest k printed w) ∷ AtFirst 46 (IsNotOnly p w) ∷ AtNoPlace 52 (IsFalseFloor p k floor) ∷ []) f →
     FirstOf (TestsAt p k printed lines floor w) f
 behind_bounds p k printed lines floor w f named names_lines within rest =
@@ -81,7 +82,7 @@ stops_ends p k costs floor lines w (Refused fault place) lines_are given named s
     (inr (no_places p lines named, inl (only_test (AtFirst 53 (HasUnequalEnds p.vars lines)) f stops)))
 
 pub stops_bounds : (p : DesignProblem) (k : ℕ) (costs : Costs) (floor : Floor) (lines : List CostLine) (w : List ℕ)
-    (s : Refusal CheckFault ℕ) → lines ≡ costs.lines → w ≡ costs_given p lines → NamesPlaces p.vars lines → Names p lines w →
+    (s : Refusal CheckFault ℕ) → lines ≡ costs.lines → w ≡ costs_given p lines → NamesPlaces p.vars lines → CostLinesOf w p.vars lines →
     StopsBy (AtFirst 45 (IsOutside p.low p.high w) ∷ []) s → StopsBy (cost_tests p (Optimal k) (Some costs) floor) s
 stops_bounds p k costs floor lines w OutOfMemory lines_are given named names_lines stops = tt
 stops_bounds p k costs floor lines w (Refused fault place) lines_are given named names_lines stops =
@@ -90,7 +91,7 @@ stops_bounds p k costs floor lines w (Refused fault place) lines_are given named
     (inr (no_places p lines named, inr (no_ends p lines w names_lines, inl (only_test (AtFirst 45 (IsOutside p.low p.high w)) f stops))))
 
 pub stops_greatest : (p : DesignProblem) (k : ℕ) (costs : Costs) (floor : Floor) (lines : List CostLine) (w : List ℕ)
-    (s : Refusal CheckFault ℕ) → lines ≡ costs.lines → w ≡ costs_given p lines → NamesPlaces p.vars lines → Names p lines w →
+    (s : Refusal CheckFault ℕ) → lines ≡ costs.lines → w ≡ costs_given p lines → NamesPlaces p.vars lines → CostLinesOf w p.vars lines →
     IsInBox (box_of p) w → StopsBy (AtNoPlace 47 (HasWrongGreatest k costs.greatest w) ∷ []) s →
     StopsBy (cost_tests p (Optimal k) (Some costs) floor) s
 stops_greatest p k costs floor lines w OutOfMemory lines_are given named names_lines within stops = tt
@@ -101,7 +102,7 @@ stops_greatest p k costs floor lines w (Refused fault place) lines_are given nam
     (inl (only_test (AtNoPlace 47 (HasWrongGreatest k costs.greatest w)) f stops)))
 
 pub stops_paths : (p : DesignProblem) (k : ℕ) (costs : Costs) (floor : Floor) (lines : List CostLine) (w : List ℕ)
-    (s : Refusal CheckFault ℕ) → lines ≡ costs.lines → w ≡ costs_given p lines → NamesPlaces p.vars lines → Names p lines w →
+    (s : Refusal CheckFault ℕ) → lines ≡ costs.lines → w ≡ costs_given p lines → NamesPlaces p.vars lines → CostLinesOf w p.vars lines →
     IsInBox (box_of p) w → (costs.greatest ≡ k) × (greatest_cost w ≡ k) → StopsBy (AtFirst 46 (IsNotOnly p w) ∷ []) s →
     StopsBy (cost_tests p (Optimal k) (Some costs) floor) s
 stops_paths p k costs floor lines w OutOfMemory lines_are given named names_lines within same stops = tt
@@ -112,8 +113,8 @@ stops_paths p k costs floor lines w (Refused fault place) lines_are given named 
     (inr (no_greatest k costs.greatest w same, inl (only_test (AtFirst 46 (IsNotOnly p w)) f stops))))
 
 pub stops_floor : (p : DesignProblem) (k : ℕ) (costs : Costs) (floor : Floor) (lines : List CostLine) (w : List ℕ)
-    (s : Refusal CheckFault ℕ) → lines ≡ costs.lines → w ≡ costs_given p lines → NamesPlaces p.vars lines → Names p lines w →
-    IsInBox (box_of p) w → (costs.greatest ≡ k) × (greatest_cost w ≡ k) → All (IsOnlyAt p.graph w) p.paths →
+    (s : Refusal CheckFault ℕ) → lines ≡ costs.lines → w ≡ costs_given p lines → NamesPlaces p.vars lines → CostLinesOf w p.vars lines →
+    IsInBox (box_of p) w → (costs.greatest ≡ k) × (greatest_cost w ≡ k) → All (IsOnlyAt p.graph w) p.requests →
     StopsBy (AtNoPlace 52 (IsFalseFloor p k floor) ∷ []) s → StopsBy (cost_tests p (Optimal k) (Some costs) floor) s
 stops_floor p k costs floor lines w OutOfMemory lines_are given named names_lines within same only stops = tt
 stops_floor p k costs floor lines w (Refused fault place) lines_are given named names_lines within same only stops =
@@ -127,8 +128,8 @@ stops_floor p k costs floor lines w (Refused fault place) lines_are given named 
 
 -- none fails
 pub passes : (p : DesignProblem) (k printed : ℕ) (lines : List CostLine) (floor : Floor) (w : List ℕ) →
-    NamesPlaces p.vars lines → Names p lines w → IsInBox (box_of p) w → (printed ≡ k) × (greatest_cost w ≡ k) →
-    All (IsOnlyAt p.graph w) p.paths → (IsFalseFloor p k floor → ⊥) → NoneOf (TestsAt p k printed lines floor w)
+    NamesPlaces p.vars lines → CostLinesOf w p.vars lines → IsInBox (box_of p) w → (printed ≡ k) × (greatest_cost w ≡ k) →
+    All (IsOnlyAt p.graph w) p.requests → (IsFalseFloor p k floor → ⊥) → NoneOf (TestsAt p k printed lines floor w)
 passes p k printed lines floor w named names_lines within same only true_floor = (
   no_places p lines named,
   (

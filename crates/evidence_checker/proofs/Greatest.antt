@@ -7,7 +7,7 @@ use Rattle.std.proofs.lemmas.List.{take_all}
 use Rattle.std.proofs.lemmas.List.Sums.{sum_by-drop_more}
 use Rattle.design_problem.specs.Boxes.{upper_sum}
 use Rattle.whole_numbers.proofs.Sizes.{sum_size}
-use Rattle.evidence_checker.proofs.Sizes.{fits_size}
+use Rattle.design_problem.proofs.ProductSizes.{fits_size}
 
 -- a coefficient of those that are left is small
 pub one_is_small : (cs : List ℤ) (i : ℕ) (sum : ℤ) → i < length cs → nat_abs sum + 65535 * sum_by nat_abs (drop i cs) < 2 ^ 127 →
@@ -22,7 +22,8 @@ one_fits cs i sum within size = fits_size (get_or cs i (pos 0)) (omega (arith, o
 pub read_is_small : (cs : List ℤ) (i : ℕ) (sum : ℤ) → i < length cs → nat_abs sum + 65535 * sum_by nat_abs (drop i cs) < 2 ^ 127 →
     nat_abs (to_z w128 (of_z w128 (get_or cs i (pos 0)))) * 65535 < 2 ^ 127
 read_is_small cs i sum within size =
-    subst (λ (z : ℤ). nat_abs z * 65535 < 2 ^ 127) (sym (to_z-of_z w128 (get_or cs i (pos 0)) (one_fits cs i sum within size))) (one_is_small cs i sum within size)
+    subst (λ (z : ℤ). nat_abs z * 65535 < 2 ^ 127) (sym (to_z-of_z w128 (get_or cs i (pos 0)) (one_fits cs i sum within size)))
+    (one_is_small cs i sum within size)
 
 -- a sum fits with the next term
 pub more_fits : (cs : List ℤ) (i : ℕ) (sum term : ℤ) → i < length cs → nat_abs sum + 65535 * sum_by nat_abs (drop i cs) < 2 ^ 127 →

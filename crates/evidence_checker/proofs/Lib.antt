@@ -1,8 +1,6 @@
 pub mod Choices
 pub mod Sizes
-pub mod SumLaws
 pub mod Greatest
-pub mod PartLaws
 pub mod LineLaws
 pub mod WalkLaws
 pub mod RowLaws

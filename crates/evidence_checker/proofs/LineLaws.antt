@@ -4,7 +4,7 @@ use Rattle.std.specs.Prelude.{IsTrue, Option, None, Some, MatchOption, ◌⊎◌
 use Rattle.std.proofs.lemmas.Int.{ints}
 use Rattle.cost_base.specs.Order.{FirstOf, NoneOf}
 use Rattle.design_problem.specs.Forms.{Form}
-use Rattle.design_problem.specs.declared.form.CostBox.{CostBox}
+use Rattle.design_problem.specs.declared.boxes.CostBox.{CostBox}
 use Rattle.design_problem.specs.declared.tree.Entry.{Entry}
 use Rattle.design_problem.specs.declared.tree.Entry.TheVariants.{Tighten, Split, Halve, Refute, Undone}
 use Rattle.design_problem.specs.Boxes.{greatest, Refutes}
@@ -31,9 +31,18 @@ true_false e = cc
 -- a sound line that isn't open fails no test
 pub sound_fails_none : (forms : List Form) (box : CostBox) (entry : Entry) → SoundAt forms box entry →
     is_undone entry ≡ false → NoneOf (line_tests forms box entry)
-sound_fails_none forms box (Tighten var side value row) sound closed = (λ n failed. failed.1, (λ n failed. failed.1, (λ n failed. failed.1 sound, (λ n failed. failed.1, tt))))
-sound_fails_none forms box (Split var value) sound closed = (λ n failed. failed.1, (λ n failed. failed.1, (λ n failed. failed.1 sound, (λ n failed. failed.1, tt))))
-sound_fails_none forms box (Halve var value wide) sound closed = (λ n failed. failed.1, (λ n failed. failed.1, (λ n failed. failed.1 sound, (λ n failed. failed.1, tt))))
+sound_fails_none forms box (Tighten var side value row) sound closed = (
+  λ n failed. failed.1,
+  (λ n failed. failed.1, (λ n failed. failed.1 sound, (λ n failed. failed.1, tt))),
+)
+sound_fails_none forms box (Split var value) sound closed = (
+  λ n failed. failed.1,
+  (λ n failed. failed.1, (λ n failed. failed.1 sound, (λ n failed. failed.1, tt))),
+)
+sound_fails_none forms box (Halve var value wide) sound closed = (
+  λ n failed. failed.1,
+  (λ n failed. failed.1, (λ n failed. failed.1 sound, (λ n failed. failed.1, tt))),
+)
 sound_fails_none forms box (Refute parts) sound closed = (
   λ n failed. absurd (omega (arith, failed.1, sound.sum)),
   (

@@ -1,9 +1,9 @@
 -- Rows that are gone through in order.
-use Rattle.std.proofs.Common.{◌≡◌, ℕ, ◌+◌, ◌<◌, refl, sym, ◌∙◌, ap, subst, List, [], ◌∷◌, length, drop, get_or, add-one, drop-cons, inl, inr, map, take, ◌++◌, below_more}
+use Rattle.std.proofs.Common.{◌≡◌, ℕ, ◌+◌, ◌<◌, refl, sym, ◌∙◌, subst, List, length, drop, get_or, inl, inr, below_more}
 use Rattle.std.specs.Prelude.{slice_get, Option, Some, None, MatchOption}
-use Rattle.std.proofs.lemmas.List.{take_more, map-append, get_or_default}
-use Rattle.design_problem.specs.Forms.{Form}
+use Rattle.std.proofs.lemmas.List.{get_or_default}
 use Rattle.cost_base.specs.Order.{FirstOf, NoneOf}
+use Rattle.cost_base.proofs.ListLemmas.{drop_read}
 use Rattle.area_graph.specs.Area.{Area}
 use Rattle.design_problem.specs.declared.form.Row.{Row}
 use Rattle.design_problem.specs.declared.problem.Request.{Request}
@@ -20,14 +20,9 @@ rival_is_other g (Some r) es rival same = rival.1 same
 -- a rival row fails no test
 pub row_meets_none : (p : DesignProblem) (row : Row) → IsRow p row → NoneOf (row_tests p row)
 row_meets_none p row is_row = (
-  λ n failed. failed.1 (route_of_rival p.graph (slice_get p.paths row.request) row.rival is_row),
-  (λ n failed. rival_is_other p.graph (slice_get p.paths row.request) row.rival is_row failed.1, tt),
+  λ n failed. failed.1 (route_of_rival p.graph (slice_get p.requests row.request) row.rival is_row),
+  (λ n failed. rival_is_other p.graph (slice_get p.requests row.request) row.rival is_row failed.1, tt),
 )
-
-row_read : (rows : List Row) (k : ℕ) (row : Row) → k < length rows → row ≡ get_or rows k row → drop k rows ≡ row ∷ drop (k + 1) rows
-row_read rows k row k_in e =
-    let split : drop k rows ≡ get_or rows k row ∷ drop (k + 1) rows = rw (add-one, drop-cons rows k row) refl in
-    split ∙ ap (λ (x : Row). x ∷ drop (k + 1) rows) (sym e)
 
 -- the first faulty row of all, by the rows that are left
 abbrev pub FirstIsLeft : DesignProblem → List Row → ℕ → Type 0
@@ -36,24 +31,14 @@ FirstIsLeft p rows k = (f : FailedTest) → AtFirstItem (row_tests p) k (drop k 
 pub first_goes_on : (p : DesignProblem) (rows : List Row) (k : ℕ) (row : Row) → k < length rows →
     row ≡ get_or rows k row → IsRow p row → FirstIsLeft p rows k → FirstIsLeft p rows (k + 1)
 first_goes_on p rows k row k_in e is_row left f failed =
-    left f (subst (λ (xs : List Row). AtFirstItem (row_tests p) k xs f) (sym (row_read rows k row k_in e)) (inr (row_meets_none p row is_row, failed)))
+    left f (subst (λ (xs : List Row). AtFirstItem (row_tests p) k xs f) (sym (drop_read rows k row k_in e)) (inr (row_meets_none p row is_row, failed)))
 
 pub first_is_here : (p : DesignProblem) (rows : List Row) (k number : ℕ) (row : Row) → k < length rows →
     row ≡ get_or rows k row → FirstOf (row_tests p row) number → FirstIsLeft p rows k →
     AtFirstItem (row_tests p) 0 rows (record { number = number; place = k })
 first_is_here p rows k number row k_in e failed left =
     let f : FailedTest = record { number = number; place = k } in
-    left f (subst (λ (xs : List Row). AtFirstItem (row_tests p) k xs f) (sym (row_read rows k row k_in e)) (inl (refl, failed)))
-
--- one form more
-pub forms_more : (g : Row → Form) (fs more : List Form) (f : Form) (rows : List Row) (k : ℕ) (row : Row) →
-    more ≡ fs ++ f ∷ [] → f ≡ g row → k < length rows → row ≡ get_or rows k row → fs ≡ map g (take k rows) →
-    more ≡ map g (take (k + 1) rows)
-forms_more g fs more f rows k row e same k_in is before =
-    e
-    ∙ ap (λ (es : List Form). es ++ f ∷ []) before
-    ∙ ap (λ (x : Form). map g (take k rows) ++ x ∷ []) (same ∙ ap g is)
-    ∙ sym (ap (map g) (take_more rows k row k_in) ∙ map-append g (take k rows) (get_or rows k row ∷ []))
+    left f (subst (λ (xs : List Row). AtFirstItem (row_tests p) k xs f) (sym (drop_read rows k row k_in e)) (inl (refl, failed)))
 
 pub rows_more : (p : DesignProblem) (rows : List Row) (k : ℕ) (row : Row) → k < length rows → row ≡ get_or rows k row →
     IsRow p row → ((j : ℕ) (d : Row) → j < k → IsRow p (get_or rows j d)) → (j : ℕ) (d : Row) → j < k + 1 →

@@ -47,6 +47,7 @@ pub none_refused : (ts : List (FailedTest → Type 0)) (fault : CheckFault) (pla
 none_refused ts fault place none stops = none_first ts (record { number = check_fault_number fault; place = place }) none stops
 
 -- what is known of a stop that is handed on
-pub err_tells : {T : Type 0} (r : Result T (Refusal CheckFault ℕ)) (s : Refusal CheckFault ℕ) (P : Refusal CheckFault ℕ → Type 0) → IsErrAnd r (λ e. e ≡ s) → P s → IfErr r P
+pub err_tells : {T : Type 0} (r : Result T (Refusal CheckFault ℕ)) (s : Refusal CheckFault ℕ) (P : Refusal CheckFault ℕ → Type 0) → IsErrAnd r (λ e. e ≡ s) →
+    P s → IfErr r P
 err_tells (Ok x) s P is tells = absurd is
 err_tells (Err e) s P is tells = subst P (sym is) tells

@@ -1,5 +1,5 @@
 -- A tree that is gone through line by line, with the box of the next line and those that wait behind it.
-use Rattle.std.proofs.Common.{◌≡◌, ℕ, suc, ◌+◌, refl, sym, ◌∙◌, ap, subst, List, [], ◌∷◌, ◌++◌, length, drop, get_or, add-one, drop-cons, ◌<◌, length-set, arith, inl, inr}
+use Rattle.std.proofs.Common.{◌≡◌, ℕ, suc, ◌+◌, refl, sym, ◌∙◌, ap, subst, List, [], ◌∷◌, ◌++◌, length, length-set, arith, inl, inr}
 use Rattle.std.specs.Prelude.{false, Result, IfErr, All}
 use Rattle.std.proofs.lemmas.List.Elements.{All-nil, All-cons, All-head, All-tail, All-append, All-same}
 use Rattle.design_problem.specs.declared.tree.Side.TheVariants.{Low, High}
@@ -8,7 +8,7 @@ use Rattle.evidence_checker.specs.declared.fault.CheckFault.{CheckFault}
 use Rattle.cost_base.specs.Order.{FirstOf}
 use Rattle.cost_base.specs.declared.refusal.Refusal.{Refusal}
 use Rattle.design_problem.specs.Forms.{Form}
-use Rattle.design_problem.specs.declared.form.CostBox.{CostBox}
+use Rattle.design_problem.specs.declared.boxes.CostBox.{CostBox}
 use Rattle.design_problem.specs.declared.tree.Entry.{Entry}
 use Rattle.design_problem.specs.declared.tree.Entry.TheVariants.{Tighten, Split, Halve, Refute, Undone}
 use Rattle.design_problem.specs.Trees.{Sound, SoundAt, IsClosed, AreSeveralTrees, subboxes, subtree_count, is_undone}
@@ -71,13 +71,6 @@ pub walk_stops : (forms : List Form) (start : List CostBox) (whole : List Entry)
     Walks forms start whole box boxes place (entry ∷ rest) → FirstOf (line_tests forms box entry) number →
     AtFirstLine forms start 0 whole (record { number = number; place = place })
 walk_stops forms start whole box boxes place entry rest number walks failed = walks.first (record { number = number; place = place }) (inl (refl, failed))
-
--- the line that was read, and those after it
-pub line_read : (entries : List Entry) (k : ℕ) (entry : Entry) → k < length entries → entry ≡ get_or entries k entry →
-    drop k entries ≡ entry ∷ drop (k + 1) entries
-line_read entries k entry k_in e =
-    let split : drop k entries ≡ get_or entries k entry ∷ drop (k + 1) entries = rw (add-one, drop-cons entries k entry) refl in
-    split ∙ ap (λ (x : Entry). x ∷ drop (k + 1) entries) (sym e)
 
 -- what a tree's first line with a test is, at a box by its ends
 abbrev pub StopsTree : List Form → CostBox → List Entry → Refusal CheckFault ℕ → Type 0

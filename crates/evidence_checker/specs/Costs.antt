@@ -16,9 +16,9 @@ IsOnlyAt g w r = IsOnlyCheapest g (at_costs w) (request_ends r) r.path.edges
 
 -- the path of the request with this number isn't the only cheapest one at the costs
 abbrev pub IsNotOnlyAt : Area → List Request → List ℕ → ℕ → Type 0
-IsNotOnlyAt g paths w request = (request < length paths) × (IsOnlyAt g w (request_at paths request) → ⊥)
+IsNotOnlyAt g requests w request = (request < length requests) × (IsOnlyAt g w (request_at requests request) → ⊥)
 
 -- the first request whose path isn't the only cheapest one; None where each is
 abbrev pub IsFirstTied : Area → List Request → List ℕ → Option ℕ → Type 0
-IsFirstTied g paths w None = All (IsOnlyAt g w) paths
-IsFirstTied g paths w (Some first) = IsNotOnlyAt g paths w first × ((k : ℕ) → k < first → IsNotOnlyAt g paths w k → ⊥)
+IsFirstTied g requests w None = All (IsOnlyAt g w) requests
+IsFirstTied g requests w (Some first) = IsNotOnlyAt g requests w first × ((k : ℕ) → k < first → IsNotOnlyAt g requests w k → ⊥)

@@ -6,7 +6,8 @@ use Rattle.cost_base.specs.declared.refusal.Refusal.TheVariants.{Refused, OutOfM
 use Rattle.evidence_checker.specs.Numbers.{check_fault_number}
 use Rattle.evidence_checker.specs.declared.fault.CheckFault.{CheckFault}
 
--- the number of a test that fails, and the place where it does: 0, or that of a variable, a request, a row or a line of a tree
+-- the number of a test that fails, and the place where it does: 0, or that of a variable, a request, a row or a line of
+-- a tree
 pub record FailedTest : Type 0 where
   pub number : ℕ
   pub place : ℕ

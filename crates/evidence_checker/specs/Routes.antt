@@ -1,5 +1,5 @@
 -- The tests of a row's edges, where its request is known. No public clause cites it.
-use Rattle.std.specs.Prelude.{◌≡◌, ◌≢◌, ℕ, List, [], ◌∷◌}
+use Rattle.std.specs.Prelude.{◌≡◌, ℕ, List, [], ◌∷◌}
 use Rattle.area_graph.specs.Area.{Area}
 use Rattle.area_graph.specs.Paths.{IsPathOf}
 use Rattle.design_problem.specs.declared.problem.Request.{Request}
@@ -7,10 +7,6 @@ use Rattle.design_problem.specs.Problems.{request_ends}
 use Rattle.evidence_checker.specs.declared.fault.CheckFault.TheVariants.{NotAPath, NotARival}
 use Rattle.evidence_checker.specs.Numbers.{check_fault_number}
 use Rattle.evidence_checker.specs.Refusals.{OnItem}
-
--- a simple path between a request's ends without its excluded edges, other than its wanted path
-abbrev pub IsRivalRoute : Area → Request → List ℕ → Type 0
-IsRivalRoute g r es = IsPathOf g (request_ends r) es × (es ≢ r.path.edges)
 
 -- the tests of a row's edges: 40, they are no simple path of the request; 41, they are the wanted path
 abbrev pub route_tests : Area → Request → List ℕ → List (ℕ → Type 0)

@@ -11,7 +11,7 @@ use Rattle.design_problem.specs.declared.answer.Floor.{Floor}
 use Rattle.design_problem.specs.declared.answer.Floor.TheVariants.{Absent, Empty, Var}
 use Rattle.design_problem.specs.declared.answer.CapTree.{CapTree}
 use Rattle.design_problem.specs.declared.form.Form.{Form}
-use Rattle.design_problem.specs.declared.form.CostBox.{CostBox}
+use Rattle.design_problem.specs.declared.boxes.CostBox.{CostBox}
 use Rattle.design_problem.specs.declared.form.Row.{Row}
 use Rattle.design_problem.specs.declared.problem.VarName.{VarName}
 use Rattle.design_problem.specs.declared.tree.Entry.{Entry}
@@ -23,7 +23,7 @@ use Rattle.design_problem.specs.Trees.{TightensAt, CutsAt, subboxes}
 use Rattle.design_problem.specs.Rows.{HasRoute, path_edges, box_of, forms_of_rows, greatest_cost}
 use Rattle.design_problem.specs.Answers.{AnswerParts, greatest_bound}
 use Rattle.design_problem.specs.GivenCosts.{GivesCost, costs_given}
-use Rattle.evidence_checker.specs.declared.fault.CheckFault.TheVariants.{NothingClaimed, WrongShape, WrongPlaces, UnequalEnds, OutOfBounds, WrongGreatest, NotOnlyCheapest, FalseFloor, NotAPath, NotARival, GreatMultipliers, NothingRefuted, WeakStep, OpenLeaf}
+use Rattle.evidence_checker.specs.declared.fault.CheckFault.TheVariants.{NothingClaimed, WrongShape, WrongPlaces, UnequalEnds, OutOfBounds, WrongGreatest, NotOnlyCheapest, FalseFloor, NotAPath, NotARival, GreatMultipliers, NothingRefuted, UnsoundEntry, OpenLeaf}
 use Rattle.evidence_checker.specs.Numbers.{check_fault_number}
 use Rattle.evidence_checker.specs.Refusals.{FailedTest, AtNoPlace, AtFirst, OnItem, AtFirstItem}
 
@@ -57,9 +57,9 @@ ShapeOfClaim p Impossible None floor proof = ShapeOfNone p floor proof
 ShapeOfClaim p Impossible (Some costs) floor proof = ⊥
 ShapeOfClaim p (Undecided cap) costs floor proof = ⊥
 
--- 51: the answer lacks the shape of its verdict, or an unfinished tree stands
+-- 51: the answer lacks the shape of its verdict, or an undecided tree stands
 abbrev pub HasWrongShape : DesignProblem → AnswerParts → Type 0
-HasWrongShape p a = ShapeOfClaim p a.verdict a.costs a.floor a.proof × (a.unfinished ≡ None) → ⊥
+HasWrongShape p a = ShapeOfClaim p a.verdict a.costs a.floor a.proof × (a.undecided ≡ None) → ⊥
 
 -- 50: the cost lines don't name the free interfaces, each once, in order
 abbrev pub NamesPlaces : List VarName → List CostLine → Type 0
@@ -80,7 +80,8 @@ HasWrongGreatest k printed w = (printed ≡ k) × (greatest_cost w ≡ k) → �
 -- 46: the request's path isn't the only cheapest among the simple paths of the request
 abbrev pub IsNotOnly : DesignProblem → List ℕ → ℕ → Type 0
 IsNotOnly p w request =
-    (request < length p.paths) × (IsOnlyCheapest p.graph (at_costs w) (request_ends (request_at p.paths request)) (request_at p.paths request).path.edges → ⊥)
+    (request < length p.requests) × (IsOnlyCheapest p.graph (at_costs w) (request_ends (request_at p.requests request))
+    (request_at p.requests request).path.edges → ⊥)
 
 -- 52: the floor is no variable whose lower bound is k, or says that there is no variable where there is one
 abbrev pub IsFalseFloor : DesignProblem → ℕ → Floor → Type 0
@@ -106,7 +107,7 @@ cost_tests p (Undecided cap) costs floor = []
 abbrev pub row_tests : DesignProblem → Row → List (ℕ → Type 0)
 row_tests p row =
     OnItem (check_fault_number NotAPath) (HasRoute p row → ⊥)
-    ∷ OnItem (check_fault_number NotARival) (row.rival ≡ path_edges (slice_get p.paths row.request))
+    ∷ OnItem (check_fault_number NotARival) (row.rival ≡ path_edges (slice_get p.requests row.request))
     ∷ []
 
 -- 48: the sum of a Refute's multipliers is 2^100 or more
@@ -126,12 +127,12 @@ RefutesNothing forms box (Refute parts) = Any (λ part. length forms ≤ part.0)
 RefutesNothing forms box Undone = ⊥
 
 -- 42: a Tighten, a Split or a Halve is no sound step at the box
-abbrev pub IsWeakStep : List Form → CostBox → Entry → Type 0
-IsWeakStep forms box (Tighten var side value row) = TightensAt forms box side var value row → ⊥
-IsWeakStep forms box (Split var value) = CutsAt box var value → ⊥
-IsWeakStep forms box (Halve var value wide) = CutsAt box var value → ⊥
-IsWeakStep forms box (Refute parts) = ⊥
-IsWeakStep forms box Undone = ⊥
+abbrev pub IsUnsoundEntry : List Form → CostBox → Entry → Type 0
+IsUnsoundEntry forms box (Tighten var side value row) = TightensAt forms box side var value row → ⊥
+IsUnsoundEntry forms box (Split var value) = CutsAt box var value → ⊥
+IsUnsoundEntry forms box (Halve var value wide) = CutsAt box var value → ⊥
+IsUnsoundEntry forms box (Refute parts) = ⊥
+IsUnsoundEntry forms box Undone = ⊥
 
 -- 44: nothing is said of the box
 abbrev pub IsOpenLeaf : Entry → Type 0
@@ -146,7 +147,7 @@ abbrev pub line_tests : List Form → CostBox → Entry → List (ℕ → Type 0
 line_tests forms box entry =
     OnItem (check_fault_number GreatMultipliers) (HasGreatSum entry)
     ∷ OnItem (check_fault_number NothingRefuted) (RefutesNothing forms box entry)
-    ∷ OnItem (check_fault_number WeakStep) (IsWeakStep forms box entry)
+    ∷ OnItem (check_fault_number UnsoundEntry) (IsUnsoundEntry forms box entry)
     ∷ OnItem (check_fault_number OpenLeaf) (IsOpenLeaf entry)
     ∷ []
 

@@ -23,7 +23,7 @@ use std::alloc::Global;
 /// Tests that an answer has the parts that its verdict needs, and no others.
 fn check_shape(problem: &Problem, answer: &Answer) -> Result<(), Refusal<CheckFault, u64>>
     ensures shape { IfOk result (λ _. ShapeOfClaim problem.now answer.now.verdict answer.now.costs
-        answer.now.floor answer.now.proof × (answer.now.unfinished ≡ None)) }
+        answer.now.floor answer.now.proof × (answer.now.undecided ≡ None)) }
     ensures first { IfErr result
         (StopsBy (AtNoPlace (check_fault_number WrongShape) (HasWrongShape problem.now answer.now) ∷
         [])) }
@@ -31,14 +31,11 @@ fn check_shape(problem: &Problem, answer: &Answer) -> Result<(), Refusal<CheckFa
     let costs = answer.costs.as_ref();
     let proof = answer.proof.as_ref();
     if fits_claim(problem, answer.verdict, costs, answer.floor, proof)
-        && answer.unfinished.is_none()
+        && answer.undecided.is_none()
     {
         return Ok(());
     }
-    Err(Refusal::Refused {
-        fault: CheckFault::WrongShape,
-        place: 0,
-    })
+    Err(Refusal::at(0, CheckFault::WrongShape))
 }
 
 /// Tests the costs and the floor of an optimal answer.

@@ -4,7 +4,7 @@ ghost use Rattle.evidence_checker.specs.declared.fault.CheckFault.TheVariants.{F
 ghost use Rattle.evidence_checker.specs.declared.fault.CheckFault.TheVariants.{WrongPlaces};
 ghost use Rattle.evidence_checker.specs.Numbers.{check_fault_number};
 ghost use Rattle.std.specs.Prelude.{◌≡◌, ℕ, ◌≤◌, [], ◌∷◌, length, All, IfOk, IfErr};
-ghost use Rattle.design_problem.specs.Answers.{Names, GivesCosts};
+ghost use Rattle.design_problem.specs.Answers.{CostLinesOf, GivesCosts};
 ghost use Rattle.design_problem.specs.Boxes.{IsInBox};
 ghost use Rattle.design_problem.specs.GivenCosts.{costs_given};
 ghost use Rattle.design_problem.specs.Rows.{box_of, greatest_cost};
@@ -32,10 +32,7 @@ fn check_places(problem: &Problem, lines: &[CostLine]) -> Result<(), Refusal<Che
     if names_places(names_of(problem), lines) {
         return Ok(());
     }
-    Err(Refusal::Refused {
-        fault: CheckFault::WrongPlaces,
-        place: 0,
-    })
+    Err(Refusal::at(0, CheckFault::WrongPlaces))
 }
 
 /// The costs that the lines give the variables.
@@ -55,7 +52,7 @@ fn check_ends(
 ) -> Result<(), Refusal<CheckFault, u64>>
     requires named { NamesPlaces problem.now.vars lines.now }
     requires given { costs.now ≡ costs_given problem.now lines.now }
-    ensures names { IfOk result (λ _. Names problem.now lines.now costs.now) }
+    ensures names { IfOk result (λ _. CostLinesOf costs.now problem.now.vars lines.now) }
     ensures first { IfErr result
         (StopsBy
         (AtFirst (check_fault_number UnequalEnds) (HasUnequalEnds problem.now.vars lines.now) ∷
@@ -63,10 +60,7 @@ fn check_ends(
 {
     problem.keeps_conditions();
     match first_unequal(names_of(problem), lines, costs) {
-        Some(var) => Err(Refusal::Refused {
-            fault: CheckFault::UnequalEnds,
-            place: u64::from(var),
-        }),
+        Some(var) => Err(Refusal::at(u64::from(var), CheckFault::UnequalEnds)),
         None => Ok(()),
     }
 }
@@ -82,10 +76,7 @@ fn check_bounds(problem: &Problem, costs: &[u16]) -> Result<(), Refusal<CheckFau
 {
     problem.keeps_conditions();
     match first_outside(low_of(problem), high_of(problem), costs) {
-        Some(var) => Err(Refusal::Refused {
-            fault: CheckFault::OutOfBounds,
-            place: u64::from(var),
-        }),
+        Some(var) => Err(Refusal::at(u64::from(var), CheckFault::OutOfBounds)),
         None => Ok(()),
     }
 }
@@ -104,10 +95,7 @@ fn check_greatest(
     if printed == greatest && greatest_of(costs) == greatest {
         return Ok(());
     }
-    Err(Refusal::Refused {
-        fault: CheckFault::WrongGreatest,
-        place: 0,
-    })
+    Err(Refusal::at(0, CheckFault::WrongGreatest))
 }
 
 /// Tests that each wanted path is the only cheapest among the simple paths of its request.
@@ -117,16 +105,14 @@ fn check_paths(
     costs: &[u16],
 ) -> Result<(), Refusal<CheckFault, u64>>
     requires { IsInBox (box_of problem.now) costs.now }
-    ensures only { IfOk result (λ _. All (IsOnlyAt problem.now.graph costs.now) problem.now.paths) }
+    ensures only { IfOk result (λ _. All (IsOnlyAt problem.now.graph costs.now)
+        problem.now.requests) }
     ensures first { IfErr result
         (StopsBy (AtFirst (check_fault_number NotOnlyCheapest) (IsNotOnly problem.now costs.now) ∷
         [])) }
 {
-    match first_not_only(alloc, &problem.graph, problem.paths.as_slice(), costs)? {
-        Some(place) => Err(Refusal::Refused {
-            fault: CheckFault::NotOnlyCheapest,
-            place,
-        }),
+    match first_not_only(alloc, &problem.graph, problem.requests.as_slice(), costs)? {
+        Some(place) => Err(Refusal::at(place, CheckFault::NotOnlyCheapest)),
         None => Ok(()),
     }
 }
@@ -143,10 +129,7 @@ fn check_floor(
         (IsFalseFloor problem.now greatest floor) ∷ [])) }
 {
     if is_false_floor(problem, greatest, floor) {
-        return Err(Refusal::Refused {
-            fault: CheckFault::FalseFloor,
-            place: 0,
-        });
+        return Err(Refusal::at(0, CheckFault::FalseFloor));
     }
     Ok(())
 }

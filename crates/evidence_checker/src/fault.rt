@@ -8,7 +8,7 @@ use cost_base::Fault;
 pub enum CheckFault {
     /// 49: the verdict claims nothing.
     NothingClaimed,
-    /// 51: the answer lacks the shape of its verdict, or an unfinished tree stands.
+    /// 51: the answer lacks the shape of its verdict, or an undecided tree stands.
     WrongShape,
     /// 50: the cost lines don't name the free interfaces, each once, in order.
     WrongPlaces,
@@ -31,7 +31,7 @@ pub enum CheckFault {
     /// 43: a Refute refutes nothing. The place is the line of the tree.
     NothingRefuted,
     /// 42: a Tighten, a Split or a Halve is no sound step. The place is the line of the tree.
-    WeakStep,
+    UnsoundEntry,
     /// 44: nothing is said of a box. The place is the line of the tree.
     OpenLeaf,
 }
@@ -53,7 +53,7 @@ impl Fault for CheckFault {
             CheckFault::NotARival => 41,
             CheckFault::GreatMultipliers => 48,
             CheckFault::NothingRefuted => 43,
-            CheckFault::WeakStep => 42,
+            CheckFault::UnsoundEntry => 42,
             CheckFault::OpenLeaf => 44,
         }
     }

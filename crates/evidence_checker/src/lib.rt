@@ -18,4 +18,3 @@ mod tree;
 pub use accepted::Accepted;
 pub use checker::check;
 pub use fault::CheckFault;
-pub use sums::add_parts;

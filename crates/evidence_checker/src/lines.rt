@@ -10,7 +10,7 @@ ghost use Rattle.evidence_checker.specs.Tests.{line_tests};
 
 use crate::CheckFault;
 use crate::sums::{refutes, rows_are_known, sum_is_small};
-use design_problem::{CostBox, Entry, Form, Side, greatest_removed};
+use design_problem::{CostBox, Entry, Form, NewBound, Side, greatest_removed};
 
 /// Whether a new bound makes a variable's range smaller, and not empty.
 fn is_smaller(costs: &CostBox, var: usize, side: Side, value: u16) -> bool
@@ -24,15 +24,6 @@ fn is_smaller(costs: &CostBox, var: usize, side: Side, value: u16) -> bool
         Side::Low => low < value && value <= high,
         Side::High => low <= value && value < high,
     }
-}
-
-/// What a Tighten makes a variable's range smaller by.
-#[derive(Clone, Copy)]
-struct NewBound {
-    var: u32,
-    /// Which end of the range it is.
-    side: Side,
-    value: u16,
 }
 
 /// Whether a Tighten by a row is a sound step at the box.
@@ -126,6 +117,6 @@ pub(crate) fn line_fault(
     if sound {
         None
     } else {
-        Some(CheckFault::WeakStep)
+        Some(CheckFault::UnsoundEntry)
     }
 }

@@ -5,24 +5,10 @@ ghost use Rattle.area_graph.specs.Paths.{IsPathOf};
 ghost use Rattle.design_problem.specs.Problems.{request_ends};
 ghost use Rattle.evidence_checker.specs.Costs.{IsFirstTied};
 
-use area_graph::{Graph, Point, WantedPath, is_only_cheapest};
-use cost_base::{Listed, OutOfMemory};
+use area_graph::{BorrowedRequest, Graph, Point, is_only_cheapest, point_of};
+use cost_base::OutOfMemory;
 use design_problem::Request;
 use std::alloc::Global;
-
-/// Costs as a point of scale 1.
-fn point_of(alloc: Global, costs: &[u16]) -> Result<Point, OutOfMemory>
-    ensures { IfOk result (λ point. point ≡ at_costs costs.now) }
-{
-    let mut values = Vec::new(alloc);
-    for cost in costs {
-        values.push(u128::from(*cost))?;
-    }
-    Ok(Point {
-        scale: 1,
-        values: Listed::from_items(values),
-    })
-}
 
 /// Whether the request's path is the only cheapest among the simple paths of the request.
 fn is_only(
@@ -36,7 +22,7 @@ fn is_only(
     ensures { IfOk result (λ yes. IsTrue yes ↔ IsOnlyCheapest graph.now point.now
         (request_ends request.now) request.now.path.edges) }
 {
-    let wanted = WantedPath {
+    let wanted = BorrowedRequest {
         path: &request.path,
         end: request.end,
         excluded: request.excluded.as_slice(),
@@ -48,15 +34,15 @@ fn is_only(
 pub(crate) fn first_not_only(
     alloc: Global,
     graph: &Graph,
-    paths: &[Request],
+    requests: &[Request],
     costs: &[u16],
 ) -> Result<Option<u64>, OutOfMemory>
     requires fits { FitsPoint graph.now (at_costs costs.now) }
-    requires paths { All (λ r. IsPathOf graph.now (request_ends r) r.path.edges) paths.now }
-    ensures { IfOk result (λ first. IsFirstTied graph.now paths.now costs.now first) }
+    requires requests { All (λ r. IsPathOf graph.now (request_ends r) r.path.edges) requests.now }
+    ensures { IfOk result (λ first. IsFirstTied graph.now requests.now costs.now first) }
 {
     let point = point_of(alloc, costs)?;
-    for (index, request) in paths.iter().enumerate() {
+    for (index, request) in requests.iter().enumerate() {
         if !is_only(alloc, graph, &point, request)? {
             return Ok(Some(index as u64));
         }

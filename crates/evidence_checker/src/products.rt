@@ -1,15 +1,6 @@
 //! Products of numbers within 127 bits.
-ghost use Rattle.std.specs.Prelude.{◌≡◌, ◌+◌, ◌*◌, ◌^◌, ◌<◌, ◌≤◌, pos, ◌+ℤ◌, ◌*ℤ◌, nat_abs};
+ghost use Rattle.std.specs.Prelude.{◌≡◌, ◌*◌, ◌^◌, ◌<◌, ◌≤◌, nat_abs};
 ghost use Rattle.design_problem.specs.Boxes.{upper_term};
-
-/// A sum, and a product with a multiplier.
-pub(crate) fn plus_product(sum: i128, multiplier: u128, factor: i64) -> i128
-    requires multiplier { multiplier < 2 ^ 100 }
-    requires size { nat_abs sum + multiplier * nat_abs factor < 2 ^ 127 }
-    ensures { result ≡ (sum +ℤ (pos multiplier *ℤ factor)) }
-{
-    sum + multiplier as i128 * i128::from(factor)
-}
 
 /// A coefficient times the end of a range at which that is greatest.
 pub(crate) fn greatest_term(coefficient: i128, low: u16, high: u16) -> i128

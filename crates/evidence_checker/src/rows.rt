@@ -1,18 +1,18 @@
 //! The tests of rows, and their forms.
-ghost use Rattle.std.specs.Prelude.{◌≡◌, ◌↔◌, ℕ, [], ◌∷◌, length, map, slice_get, All, IsTrue, ◌++◌, IfOk, IfErr, OnOk, MatchOption};
+ghost use Rattle.std.specs.Prelude.{◌≡◌, ◌↔◌, ℕ, [], ◌∷◌, Some, length, map, slice_get, All, IsTrue, ◌++◌, IfOk, IfErr, OnOk, MatchOption};
 ghost use Rattle.cost_base.specs.Order.{FirstOf};
 ghost use Rattle.area_graph.specs.Paths.{IsPathOf};
 ghost use Rattle.design_problem.specs.Forms.{IsSmallForm};
 ghost use Rattle.design_problem.specs.Problems.{request_ends};
-ghost use Rattle.design_problem.specs.Rows.{IsRow, forms_of_rows, form_of_row};
+ghost use Rattle.design_problem.specs.Rows.{IsRivalOf, IsRow, forms_of_rows, form_of_row};
 ghost use Rattle.evidence_checker.specs.Refusals.{StopsBy, AtFirstItem};
 ghost use Rattle.evidence_checker.specs.Numbers.{check_fault_number};
 ghost use Rattle.evidence_checker.specs.Tests.{row_tests};
-ghost use Rattle.evidence_checker.specs.Routes.{route_tests, IsRivalRoute};
+ghost use Rattle.evidence_checker.specs.Routes.{route_tests};
 
 use crate::CheckFault;
 use area_graph::{Graph, Path, is_path_of};
-use cost_base::{Listed, OutOfMemory, Refusal};
+use cost_base::{Listed, OutOfMemory, Refusal, push_last};
 use design_problem::{Form, Problem, Request, Row, form_of};
 use std::alloc::Global;
 
@@ -40,7 +40,7 @@ fn route_fault(
     edges: &[u32],
 ) -> Result<Option<CheckFault>, OutOfMemory>
     ensures { IfOk result (λ fault. MatchOption fault
-        (IsRivalRoute graph.now request.now edges.now)
+        (IsRivalOf graph.now (Some request.now) edges.now)
         (λ f. FirstOf (route_tests graph.now request.now edges.now) (check_fault_number f))) }
 {
     if !is_route(alloc, graph, request, edges)? {
@@ -57,27 +57,21 @@ fn row_fault(alloc: Global, problem: &Problem, row: &Row) -> Result<Option<Check
     ensures { IfOk result (λ fault. MatchOption fault (IsRow problem.now row.now)
         (λ f. FirstOf (row_tests problem.now row.now) (check_fault_number f))) }
 {
-    match problem.paths.as_slice().get(row.request as usize) {
+    match problem.requests.as_slice().get(row.request as usize) {
         Some(request) => route_fault(alloc, &problem.graph, request, row.rival.as_slice()),
         None => Ok(Some(CheckFault::NotAPath)),
     }
 }
 
 /// The form of a row.
+///
+/// For the prover: a call, since the row's test shows that it is a row, and `form_of` requires that it has a route.
 fn form_of_rival(alloc: Global, problem: &Problem, row: &Row) -> Result<Form, OutOfMemory>
     requires { IsRow problem.now row.now }
     ensures form { IfOk result (λ form. form ≡ form_of_row problem.now row.now) }
     ensures small { IfOk result (λ form. IsSmallForm (length problem.now.low) form) }
 {
     form_of(alloc, problem, row)
-}
-
-/// One form more.
-fn push_form(forms: &mut Vec<Form>, form: Form) -> Result<(), OutOfMemory>
-    ensures { OnOk result (forms.new.items ≡ forms.old.items ++ form ∷ []) }
-{
-    forms.push(form)?;
-    Ok(())
 }
 
 /// The forms of the rows. The rows are tested in order.
@@ -95,10 +89,10 @@ pub(crate) fn forms_of(
     for (index, row) in rows.iter().enumerate() {
         if let Some(fault) = row_fault(alloc, problem, row)? {
             let place = index as u64;
-            return Err(Refusal::Refused { fault, place });
+            return Err(Refusal::at(place, fault));
         }
         let form = form_of_rival(alloc, problem, row)?;
-        push_form(&mut forms, form)?;
+        push_last(&mut forms, form)?;
     }
     Ok(forms)
 }

@@ -21,10 +21,7 @@ pub(crate) fn claimed(verdict: Verdict) -> Result<Accepted, Refusal<CheckFault, 
     match verdict {
         Verdict::Optimal(greatest) => Ok(Accepted::Optimal(greatest)),
         Verdict::Impossible => Ok(Accepted::Impossible),
-        Verdict::Undecided(_) => Err(Refusal::Refused {
-            fault: CheckFault::NothingClaimed,
-            place: 0,
-        }),
+        Verdict::Undecided(_) => Err(Refusal::at(0, CheckFault::NothingClaimed)),
     }
 }
 

@@ -1,11 +1,11 @@
-//! Weighted sums of forms, and whether they are negative over a whole box.
-ghost use Rattle.std.specs.Prelude.{◌≡◌, ◌↔◌, ℕ, ◌+◌, ◌*◌, ◌^◌, ◌<◌, ◌≤◌, ℤ, pos, ◌+ℤ◌, ◌*ℤ◌, ◌<ℤ◌, nat_abs, length, map, slice_index_or, All, Any, IsTrue};
+//! Whether weighted sums of forms are negative over a whole box.
+ghost use Rattle.std.specs.Prelude.{◌≡◌, ◌↔◌, ◌+◌, ◌*◌, ◌^◌, ◌<◌, ◌≤◌, ℤ, pos, ◌+ℤ◌, ◌<ℤ◌, nat_abs, length, All, Any, IsTrue};
 ghost use Rattle.std.specs.Prelude.{MatchBool, sum_by};
 ghost use Rattle.design_problem.specs.Boxes.{upper_sum, greatest};
 ghost use Rattle.design_problem.specs.Forms.{weighted, IsSmallForm};
 
-use crate::products::{greatest_term, plus_product};
-use design_problem::{CostBox, Form};
+use crate::products::greatest_term;
+use design_problem::{CostBox, Form, add_parts};
 
 /// The sum of a Refute's multipliers is below this.
 const MOST: u128 = 1 << 100;
@@ -37,23 +37,6 @@ pub(crate) fn rows_are_known(parts: &[(u64, u128)], count: usize) -> bool
     true
 }
 
-/// Adds a form's coefficients, each times the multiplier, to the sums of their variables.
-fn add_form(sums: &mut [i128], multiplier: u128, form: &Form)
-    requires count { length form.now.coefficients ≡ length sums.old }
-    requires multiplier { multiplier < 2 ^ 100 }
-    requires room { (i : ℕ) → i < length sums.old → nat_abs (slice_index_or sums.old i (pos 0)) +
-        multiplier * sum_by nat_abs form.now.coefficients < 2 ^ 127 }
-    ensures { (i : ℕ) → i < length sums.old → slice_index_or sums.new i (pos 0) ≡
-        (slice_index_or sums.old i (pos 0) +ℤ
-        (pos multiplier *ℤ slice_index_or form.now.coefficients i (pos 0))) }
-{
-    let terms = form.terms();
-    for term in terms {
-        let var = term.var as usize;
-        sums[var] = plus_product(sums[var], multiplier, term.coefficient);
-    }
-}
-
 /// The greatest value of a sum over a box, by its constant and coefficients.
 fn greatest_sum(constant: i128, coefficients: &[i128], low: &[u16], high: &[u16]) -> i128
     requires low { length coefficients.now ≡ length low.now }
@@ -66,29 +49,6 @@ fn greatest_sum(constant: i128, coefficients: &[i128], low: &[u16], high: &[u16]
         sum += greatest_term(coefficients[i], low[i], high[i]);
     }
     sum
-}
-
-/// Adds up the forms of some rows, each times its multiplier: their coefficients into `sums`, which are 0 before, and
-/// the constant as the answer.
-pub fn add_parts(forms: &[Form], parts: &[(u64, u128)], sums: &mut [i128]) -> i128
-    // The parts name forms of the variables of the sums, and no sum of theirs overflows.
-    requires forms { All (IsSmallForm (length sums.old)) forms.now }
-    requires rows { All (λ part. part.0 < length forms.now) parts.now }
-    requires sum { sum_by (λ part. part.1) parts.now < 2 ^ 100 }
-
-    // The sums begin with 0 and end as the coefficients of the weighted sum.
-    requires empty { (i : ℕ) → slice_index_or sums.old i (pos 0) ≡ pos 0 }
-    ensures constant { result ≡ (weighted forms.now parts.now).constant }
-    ensures coefficients { (i : ℕ) → i < length sums.old → slice_index_or sums.new i (pos 0) ≡
-        slice_index_or (weighted forms.now parts.now).coefficients i (pos 0) }
-{
-    let mut constant = 0i128;
-    for part in parts {
-        let form = &forms[part.0 as usize];
-        constant = plus_product(constant, part.1, form.constant());
-        add_form(sums, part.1, form);
-    }
-    constant
 }
 
 /// Whether the weighted sum of the forms is negative at its greatest over the box. The sums are room for a number for

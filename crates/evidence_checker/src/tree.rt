@@ -1,8 +1,8 @@
 //! The lines of a tree, tested in order.
-ghost use Rattle.std.specs.Prelude.{◌≡◌, ℕ, List, [], ◌∷◌, ◌++◌, length, map, min, All, IfOk, IfErr, false, MatchBool, MatchOption};
+ghost use Rattle.std.specs.Prelude.{◌≡◌, [], ◌∷◌, length, All, IfOk, IfErr, false, MatchOption};
 ghost use Rattle.design_problem.specs.Boxes.{capped};
-ghost use Rattle.design_problem.specs.Forms.{Form, IsSmallForm};
-ghost use Rattle.design_problem.specs.Trees.{IsSoundTree, IsClosed, IsSingleTree, SoundAt, is_undone, subboxes};
+ghost use Rattle.design_problem.specs.Forms.{IsSmallForm};
+ghost use Rattle.design_problem.specs.Trees.{IsSoundTree, IsClosed, IsSingleTree, SoundAt, is_undone};
 ghost use Rattle.evidence_checker.specs.Refusals.{StopsBy};
 ghost use Rattle.cost_base.specs.Order.{FirstOf};
 ghost use Rattle.evidence_checker.specs.Numbers.{check_fault_number};
@@ -21,29 +21,9 @@ fn room_for_sums(alloc: Global, count: usize) -> Result<Vec<i128>, OutOfMemory>
     Ok(vec![in alloc; 0i128; count]?)
 }
 
-/// Goes on after a line that is sound at the present box, and says whether a box is still open.
-fn go_on(boxes: &mut OpenBoxes, entry: &Entry) -> Result<bool, OutOfMemory>
-    requires { (forms : List Form) × SoundAt forms boxes.old.present entry.now }
-    ensures { IfOk result
-        (λ more. MatchBool more (subboxes boxes.old.present entry.now ++ boxes.old.behind ≡
-        boxes.new.present ∷ boxes.new.behind) (subboxes boxes.old.present entry.now ++
-        boxes.old.behind ≡ [])) }
-{
-    match entry {
-        Entry::Tighten {
-            var,
-            side,
-            value,
-            ..
-        } => boxes.tighten(*var, *side, *value)?,
-        Entry::Split { var, value } => boxes.cut(*var, *value)?,
-        Entry::Halve { var, value, .. } => boxes.cut(*var, *value)?,
-        Entry::Refute { .. } | Entry::Undone => return Ok(boxes.close()),
-    }
-    Ok(true)
-}
-
 /// The first test that a line fails at a box. The sums are room for a number for each variable, before and after.
+///
+/// For the prover: a call, since the list keeps its length, which `line_fault` can't say of the slice that it is given.
 fn fault_at(
     forms: &[Form],
     costs: &CostBox,
@@ -86,9 +66,9 @@ fn check_lines(
     for (line, entry) in entries.iter().enumerate() {
         if let Some(fault) = fault_at(forms, boxes.present(), sums, entry) {
             let place = line as u64;
-            return Err(Refusal::Refused { fault, place });
+            return Err(Refusal::at(place, fault));
         }
-        if !go_on(boxes, entry)? {
+        if !boxes.go_on(entry)? {
             return Ok(());
         }
     }

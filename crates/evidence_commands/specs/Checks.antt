@@ -25,7 +25,8 @@ use Rattle.input_files.specs.Outcomes.{outcome, file_read, longest_answer}
 use Rattle.report_writer.specs.declared.report.Report.{Report}
 use Rattle.report_writer.specs.Reports.{Reports}
 use Rattle.report_writer.specs.declared.rejection.Rejection.{Rejection}
-use Rattle.report_writer.specs.Texts.{line_of_words, rejected_line}
+use Rattle.line_builder.specs.Words.{line_of_words}
+use Rattle.report_writer.specs.Texts.{rejected_line}
 
 -- what is checked: the bytes of an answer's file, as the text of an answer to a problem
 pub record Claim : Type 0 where

@@ -1,4 +1,5 @@
--- What a rewrite makes of a configuration and a file with costs: an answer's, or what `total`, `spread` or `change` writes.
+-- What a rewrite makes of a configuration and a file with costs: an answer's, or what `total`, `spread` or `change`
+-- writes.
 use Rattle.std.specs.Prelude.{◌≡◌, ℕ, ◌-◌, ◌^◌, ◌<◌, ◌⊎◌, List, [], ◌∷◌, ◌++◌, length, Bool, if◌then◌else◌, Option, None, Some}
 use Rattle.std.specs.List.{filter, list_any}
 use Rattle.cost_base.specs.declared.Status.{Status}
@@ -6,8 +7,6 @@ use Rattle.cost_base.specs.declared.Status.TheVariants as status
 use Rattle.cost_base.specs.Lists.{same_bytes}
 use Rattle.config_reader.specs.Configs.{config_of}
 use Rattle.design_problem.specs.declared.answer.CostLine.{CostLine}
-use Rattle.evidence_checker.specs.declared.fault.CheckFault.TheVariants.{NothingClaimed, WrongPlaces}
-use Rattle.evidence_checker.specs.Numbers.{check_fault_number}
 use Rattle.config_writer.specs.Rewriting.{costs_of, rewritten, first_missing, ReadsBack}
 use Rattle.evidence_commands.specs.declared.rewrite.Revised.{Revised}
 use Rattle.evidence_commands.specs.declared.rewrite.Revised.TheVariants.{Written, Rejected}
@@ -17,6 +16,8 @@ use Rattle.report_writer.specs.declared.rejection.Rejection.{Rejection}
 use Rattle.report_writer.specs.declared.report.Report.{Report}
 use Rattle.report_writer.specs.Texts.{rejected_line}
 use Rattle.report_writer.specs.Reports.{Reports}
+use Rattle.sections_reader.specs.declared.fault.CostsFault.TheVariants.{NoCosts, NoInterface}
+use Rattle.sections_reader.specs.FaultNumbers.{costs_fault_number}
 use Rattle.sections_reader.specs.Texts.{SaysCosts, start_of_bytes}
 use Rattle.evidence_reader.specs.Refusals.{IsOffGrammar}
 
@@ -61,10 +62,10 @@ pub record IsRewritten (r : Revision) (text : List ℕ) : Type 0 where
   pub written : text ≡ rewritten (new_costs r.config costs) r.config.bytes
   pub read_back : ReadsBack r.config.name (new_costs r.config costs) r.config.bytes text
 
--- a rewrite is rejected, since the file with costs says that there are none: it claims nothing
+-- a rewrite is rejected, since the file with costs says that there are none
 pub record HasNoCosts (r : Revision) (rejection : Rejection) : Type 0 where
   pub none : SaysCosts r.bytes None
-  pub number : rejection.number ≡ check_fault_number NothingClaimed
+  pub number : rejection.number ≡ costs_fault_number NoCosts
   pub place : rejection.place ≡ 0
 
 -- a rewrite is rejected, since a cost line of its router names an interface without a head in the configuration
@@ -72,7 +73,7 @@ pub record NamesNoHead (r : Revision) (rejection : Rejection) : Type 0 where
   pub costs : List CostLine
   pub said : SaysCosts r.bytes (Some costs)
   pub missing : first_missing (new_costs r.config costs) r.config.bytes ≡ None → ⊥
-  pub number : rejection.number ≡ check_fault_number WrongPlaces
+  pub number : rejection.number ≡ costs_fault_number NoInterface
   pub place : rejection.place ≡ 0
 
 -- why a rewrite is rejected: its file is off the grammar of texts with costs, or gives the configuration no costs

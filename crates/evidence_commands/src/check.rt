@@ -1,24 +1,19 @@
 //! `check`: whether an answer's file is that of a valid answer to the problem of the files of words.
 ghost use Rattle.std.specs.Prelude.{◌≡◌, ℕ, ◌≤◌, List, IfOk, length};
-ghost use Rattle.design_problem.specs.Answers.{AnswerParts};
-ghost use Rattle.evidence_checker.specs.Laws.{RefusesInvalid};
-ghost use Rattle.evidence_checker.specs.Refusals.{StopsBy};
-ghost use Rattle.evidence_checker.specs.Tests.{tests};
 ghost use Rattle.input_files.specs.Readings.{Gave};
 ghost use Rattle.input_files.specs.Outcomes.{longest_answer};
 ghost use Rattle.input_files.specs.Stops.{IsReadAs, files_named};
 ghost use Rattle.report_writer.specs.Reports.{bytes_in};
-ghost use Rattle.evidence_commands.specs.Checks.{Claim, IsInvalid, IsJudged, IsTextOf, MayCheck, ReportsJudgement, claim_read, claim_with};
+ghost use Rattle.evidence_commands.specs.Checks.{IsJudged, IsTextOf, MayCheck, ReportsJudgement, claim_read, claim_with};
 
-use crate::rejection::rejection_of_text;
 use crate::verdict_lines::accepted_line_of;
-use cost_base::{Fault, OutOfMemory, Refusal, Shelf, Status};
+use cost_base::{OutOfMemory, Shelf, Status};
 use design_problem::{Answer, Problem};
-use evidence_checker::{Accepted, CheckFault, check};
+use evidence_checker::{Accepted, check};
 use evidence_reader::read_answer;
 use evidence_text::keeps_answer;
 use input_files::{FileWords, Stop, View, read_answer_file, read_problem};
-use report_writer::{Rejection, Report, rejected_line_of};
+use report_writer::{Rejection, Report, rejection_of};
 use std::alloc::Global;
 
 /// What a check of an answer's file comes to.
@@ -30,21 +25,6 @@ pub(crate) enum Judgement {
     Rejected(Rejection),
 }
 
-/// The rejection of an answer by the checker.
-fn rejection_of_answer(stop: Refusal<CheckFault, u64>) -> Result<Rejection, OutOfMemory>
-    ensures { (claim : Claim) (answer : AnswerParts) → IsTextOf claim.bytes answer →
-        StopsBy (tests claim.problem answer) stop → RefusesInvalid claim.problem answer stop →
-        IfOk result (IsInvalid claim) }
-{
-    match stop {
-        Refusal::Refused { fault, place } => Ok(Rejection {
-            number: fault.number(),
-            place,
-        }),
-        Refusal::OutOfMemory => Err(OutOfMemory),
-    }
-}
-
 /// What a check of an answer to a problem comes to.
 fn judge_answer(alloc: Global, problem: &Problem, answer: &Answer) -> Result<Judgement, OutOfMemory>
     ensures { (bytes : List ℕ) → IsTextOf bytes answer.now → IfOk result
@@ -52,7 +32,7 @@ fn judge_answer(alloc: Global, problem: &Problem, answer: &Answer) -> Result<Jud
 {
     match check(alloc, problem, answer) {
         Ok(accepted) => Ok(Judgement::Accepted(accepted)),
-        Err(stop) => Ok(Judgement::Rejected(rejection_of_answer(stop)?)),
+        Err(stop) => Ok(Judgement::Rejected(rejection_of(stop)?)),
     }
 }
 
@@ -66,7 +46,7 @@ fn judge(alloc: Global, problem: &Problem, bytes: &[u8]) -> Result<Judgement, Ou
             keeps_answer(&answer);
             judge_answer(alloc, problem, &answer)
         }
-        Err(stop) => Ok(Judgement::Rejected(rejection_of_text(stop)?)),
+        Err(stop) => Ok(Judgement::Rejected(rejection_of(stop)?)),
     }
 }
 
@@ -109,10 +89,7 @@ fn report_of_judgement(alloc: Global, judgement: Judgement) -> Result<Report, Ou
             let text = accepted_line_of(alloc, accepted)?;
             Ok(Report::made(Status::Done, text))
         }
-        Judgement::Rejected(rejection) => {
-            let text = rejected_line_of(alloc, rejection)?;
-            Ok(Report::made(Status::EvidenceRefused, text))
-        }
+        Judgement::Rejected(rejection) => Report::rejected(alloc, rejection),
     }
 }
 

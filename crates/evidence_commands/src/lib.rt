@@ -3,7 +3,6 @@
 
 mod check;
 mod own_lines;
-mod rejection;
 mod rewrite;
 mod verdict_lines;
 

@@ -2,21 +2,10 @@
 ghost use Rattle.std.specs.Prelude.{◌≡◌, IfOk, OnOk};
 ghost use Rattle.evidence_commands.specs.Rewrites.{AddsLine, last_lines, own_lines};
 
-use config_reader::Names;
 use cost_base::{Name, OutOfMemory};
-use design_problem::CostLine;
+use design_problem::{CostLine, cost_line};
 use std::alloc::Global;
-
-/// A copy of a line.
-fn copy_of(alloc: Global, line: &CostLine) -> Result<CostLine, OutOfMemory>
-    ensures { IfOk result (λ copy. copy ≡ line.now) }
-{
-    Ok(CostLine {
-        router: Name::from_bytes(alloc, line.router.as_bytes())?,
-        interface: Name::from_bytes(alloc, line.interface.as_bytes())?,
-        cost: line.cost,
-    })
-}
+use text_lines::Names;
 
 /// The lines of a router; where one interface has several, the last one.
 pub(crate) fn last_lines(
@@ -48,8 +37,9 @@ fn add_line<'a>(
 ) -> Result<(), OutOfMemory>
     ensures { OnOk result (AddsLine last.old.items last.new.items seen.old seen.new line.now) }
 {
-    if seen.add(line.interface.as_bytes())? {
-        last.push(copy_of(alloc, line)?)?;
+    let interface = line.interface.as_bytes();
+    if seen.add(interface)? {
+        last.push(cost_line(alloc, line.router.as_bytes(), interface, line.cost)?)?;
     }
     Ok(())
 }

@@ -11,14 +11,12 @@ ghost use Rattle.report_writer.specs.Reports.{bytes_in};
 ghost use Rattle.evidence_commands.specs.Rewrites.{HasFewLines, IsRevised, MayRewrite, ReportsRevised, Revision, new_costs, revision_read, revision_with};
 
 use crate::own_lines::last_lines;
-use crate::rejection::rejection_of_text;
 use config_writer::{RewriteStop, rewrite};
-use cost_base::{Fault, Listed, OutOfMemory, Shelf, Status};
+use cost_base::{Listed, OutOfMemory, Shelf, Status};
 use design_problem::CostLine;
-use evidence_checker::CheckFault;
 use input_files::{ConfigText, Stop, read_answer_file, read_config_text};
-use report_writer::{Rejection, Report, rejected_line_of};
-use sections_reader::read_costs;
+use report_writer::{Rejection, Report, rejection_of};
+use sections_reader::{CostsFault, read_costs};
 use std::alloc::Global;
 
 /// What a rewrite of a configuration comes to.
@@ -30,12 +28,6 @@ pub(crate) enum Revised {
     Rejected(Rejection),
 }
 
-/// Why a text without costs is rejected: it claims nothing that a configuration could take.
-const NO_COSTS: CheckFault = CheckFault::NothingClaimed;
-
-/// Why a text is rejected of which an interface has no head in the configuration.
-const NO_HEAD: CheckFault = CheckFault::WrongPlaces;
-
 /// What a configuration that wasn't rewritten comes to.
 fn unwritten(stop: RewriteStop) -> Result<Revised, OutOfMemory>
     ensures { (r : Revision) (costs : List CostLine) → SaysCosts r.bytes (Some costs) →
@@ -43,10 +35,10 @@ fn unwritten(stop: RewriteStop) -> Result<Revised, OutOfMemory>
         IfOk result (IsRevised r) }
 {
     match stop {
-        RewriteStop::NoInterface(_) => Ok(Revised::Rejected(Rejection {
-            number: NO_HEAD.number(),
-            place: 0,
-        })),
+        RewriteStop::NoInterface(_) => Ok(Revised::Rejected(Rejection::at(
+            0,
+            CostsFault::NoInterface,
+        ))),
         RewriteStop::OutOfMemory => Err(OutOfMemory),
     }
 }
@@ -82,10 +74,7 @@ fn revised_by_costs(
 {
     match costs {
         Some(lines) => revised_by_lines(alloc, config, lines.as_slice()),
-        None => Ok(Revised::Rejected(Rejection {
-            number: NO_COSTS.number(),
-            place: 0,
-        })),
+        None => Ok(Revised::Rejected(Rejection::at(0, CostsFault::NoCosts))),
     }
 }
 
@@ -100,7 +89,7 @@ fn revised_by_text(
 {
     match read_costs(alloc, bytes) {
         Ok(costs) => revised_by_costs(alloc, config, costs),
-        Err(stop) => Ok(Revised::Rejected(rejection_of_text(stop)?)),
+        Err(stop) => Ok(Revised::Rejected(rejection_of(stop)?)),
     }
 }
 
@@ -140,10 +129,7 @@ fn report_of_revised(alloc: Global, revised: Revised) -> Result<Report, OutOfMem
 {
     match revised {
         Revised::Written(text) => Ok(Report::made(Status::Done, text)),
-        Revised::Rejected(rejection) => {
-            let text = rejected_line_of(alloc, rejection)?;
-            Ok(Report::made(Status::EvidenceRefused, text))
-        }
+        Revised::Rejected(rejection) => Report::rejected(alloc, rejection),
     }
 }
 

@@ -4,27 +4,23 @@ ghost use Rattle.evidence_commands.specs.Checks.{accepted_line};
 
 use cost_base::OutOfMemory;
 use evidence_checker::Accepted;
+use line_builder::LineBuilder;
 use std::alloc::Global;
-use text_lines::{push_bytes, push_number};
 
 /// The line `accepted optimal K`.
 fn optimal_line_of(alloc: Global, greatest: u16) -> Result<Vec<u8>, OutOfMemory>
     ensures { IfOk result (λ text. text.items ≡ accepted_line (Accepted.Optimal greatest)) }
 {
-    let mut text = Vec::new(alloc);
-    push_bytes(&mut text, b"accepted optimal ")?;
-    push_number(&mut text, u128::from(greatest))?;
-    push_bytes(&mut text, b"\n")?;
-    Ok(text)
+    let mut line = LineBuilder::new(alloc, b"accepted optimal")?;
+    line.number(u128::from(greatest))?;
+    line.ended()
 }
 
 /// The line `accepted impossible`.
 fn impossible_line_of(alloc: Global) -> Result<Vec<u8>, OutOfMemory>
     ensures { IfOk result (λ text. text.items ≡ accepted_line Accepted.Impossible) }
 {
-    let mut text = Vec::new(alloc);
-    push_bytes(&mut text, b"accepted impossible\n")?;
-    Ok(text)
+    LineBuilder::new(alloc, b"accepted impossible")?.ended()
 }
 
 /// The line that tells what was accepted.

@@ -9,11 +9,9 @@ use Rattle.design_problem.specs.declared.answer.Costs.{Costs}
 use Rattle.design_problem.specs.declared.answer.CostLine.{CostLine}
 use Rattle.design_problem.specs.declared.answer.CapTree.{CapTree}
 use Rattle.design_problem.specs.Answers.{AnswerParts}
-use Rattle.design_problem.specs.Text.{spaced, verdict_words, router_lines, cost_lines, costs_lines, floor_word, row_line, entry_line, tree_lines, FitsCostLine, FitsCosts}
+use Rattle.design_problem.specs.Text.{spaced, verdict_words, router_lines, cost_lines, costs_lines, floor_word, row_line, entry_line, tree_lines, FitsCostLine, FitsCosts, verdict_line, costs_line, interface_line, answer_cost_line, floor_line, rows_line, end_lines, router_line}
 use Rattle.text_lines.specs.Lines.{IsOneLine}
 use Rattle.text_lines.proofs.WordLaws.{word-line}
-use Rattle.answer_lines.specs.Grammar.{router_line}
-use Rattle.evidence_text.specs.Parts.{verdict_line, costs_line, interface_line, answer_cost_line, floor_line, rows_line, end_lines}
 use Rattle.evidence_text.proofs.AnswerOrder.{ordered, after_proof, after_rows, after_floor, after_costs, after_head}
 use Rattle.evidence_reader.proofs.WholeWords.{written, spaced-whole, number-whole, numbers-whole, verdict-whole, floor-whole, entry-line}
 
@@ -90,7 +88,7 @@ pub ordered-one : (a : AnswerParts) → FitsCosts a.costs → All IsOneLine (ord
 ordered-one a fits =
     let trees : All IsOneLine (after_rows a) =
     All-append IsOneLine (tree_lines (codes "proof") a.proof) (after_proof a) (tree-one (codes "proof") a.proof (written (codes "proof") refl))
-    (All-append IsOneLine (tree_lines (codes "open") a.unfinished) end_lines (tree-one (codes "open") a.unfinished (written (codes "open") refl)) end-one) in
+    (All-append IsOneLine (tree_lines (codes "open") a.undecided) end_lines (tree-one (codes "open") a.undecided (written (codes "open") refl)) end-one) in
     let rows : All IsOneLine (after_floor a) =
     All-cons IsOneLine (rows_line (length a.rows)) (map row_line a.rows ++ after_rows a)
     (spaced-whole (codes "rows" ∷ decimal (length a.rows) ∷ []) (

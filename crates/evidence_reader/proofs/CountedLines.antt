@@ -3,9 +3,8 @@ use Rattle.std.proofs.Common.{◌≡◌, ℕ, suc, ◌+◌, ◌-◌, ◌<◌, �
 use Rattle.std.proofs.lemmas.List.{map-append}
 use Rattle.cost_base.specs.declared.refusal.Refusal.{Refusal}
 use Rattle.design_problem.specs.declared.form.Row.{Row}
-use Rattle.design_problem.specs.Text.{row_line}
+use Rattle.design_problem.specs.Text.{row_line, rows_line, rows_lines}
 use Rattle.answer_lines.specs.Grammar.{AtRows, AtRow}
-use Rattle.evidence_text.specs.Parts.{rows_line, rows_lines}
 use Rattle.answer_lines.specs.Lawful.{IsRead}
 use Rattle.evidence_reader.specs.Refusals.{IsReaderStop}
 use Rattle.evidence_reader.specs.declared.fault.AnswerFault.{AnswerFault}

@@ -6,22 +6,22 @@ use Rattle.std.proofs.lemmas.List.Elements.{All-append}
 use Rattle.cost_base.specs.Decimal.{decimal}
 use Rattle.design_problem.specs.declared.answer.Verdict.{Verdict}
 use Rattle.design_problem.specs.declared.answer.Floor.{Floor}
-use Rattle.design_problem.specs.Text.{spaced, verdict_words, floor_word, entry_line}
+use Rattle.design_problem.specs.Text.{spaced, verdict_words, floor_word, entry_line, verdict_line, floor_line}
 use Rattle.text_lines.specs.Lines.{IsOneLine}
 use Rattle.text_lines.proofs.WordLaws.{word-line}
 use Rattle.answer_lines.specs.declared.other_text.OtherText.{OtherText}
 use Rattle.answer_lines.specs.declared.other_text.OtherText.TheVariants.{Total, Spread, Change}
 use Rattle.answer_lines.specs.Words.{entry_words}
 use Rattle.answer_lines.specs.Grammar.{TextPlace, AtHead, AtVerdict, AtCosts, AtSections, AtInterface, AtCost, AtExit, AtFloor, AtRows, AtRow, AtTree, AtEnd, AfterEnd, AtOtherHead, AtInnerHead, AtOtherVerdict, AtOtherCosts, AtSectionsEnd, AtUnread, Next, IsInterfaceNext, IsInterfaceAgain, IsEndNext, IsPartNext, IsFrontAndNumber, IsPlainVerdict, IsOtherVerdict, answer_head, other_head}
-use Rattle.evidence_text.specs.Parts.{part_word, verdict_line, floor_line}
+use Rattle.evidence_text.specs.Parts.{part_word}
 use Rattle.evidence_text.specs.declared.TreePart.{TreePart}
-use Rattle.evidence_text.specs.declared.TreePart.TheVariants.{Proof, Unfinished}
+use Rattle.evidence_text.specs.declared.TreePart.TheVariants.{Proof, Undecided}
 use Rattle.answer_lines.proofs.EntryWords.{entry_line-words}
 use Rattle.evidence_reader.proofs.WholeWords.{written, AreWhole, spaced-whole, number-whole, numbers-whole, verdict-whole, floor-whole, entry-whole}
 
 part-one : (part : TreePart) → IsOneLine (part_word part)
 part-one Proof = written (codes "proof") refl
-part-one Unfinished = written (codes "open") refl
+part-one Undecided = written (codes "open") refl
 
 -- a line that is known is one
 one-along : (line known : List ℕ) → line ≡ known → IsOneLine known → IsOneLine line
@@ -42,8 +42,10 @@ floor-one : (line : List ℕ) (floor : Floor) → line ≡ floor_line floor → 
 floor-one line floor is = one-of line (codes "floor" ∷ floor_word floor ∷ []) is (written (codes "floor") refl, (floor-whole floor, tt))
 
 -- a front without an LF, and a number behind it
-front-one : (front : List ℕ) (greatest : ℕ) (line : List ℕ) → list_all (λ c. not (eqb c 10)) front ≡ true → IsFrontAndNumber front greatest line → IsOneLine line
-front-one front greatest line plain said = one-along line (front ++ decimal said.0) said.2 (All-append (λ c. eqb c 10 ≡ false) front (decimal said.0) (written front plain) (number-whole said.0))
+front-one : (front : List ℕ) (greatest : ℕ) (line : List ℕ) → list_all (λ c. not (eqb c 10)) front ≡ true → IsFrontAndNumber front greatest line →
+    IsOneLine line
+front-one front greatest line plain said = one-along line (front ++ decimal said.0) said.2
+    (All-append (λ c. eqb c 10 ≡ false) front (decimal said.0) (written front plain) (number-whole said.0))
 
 end-one : (of : Option OtherText) (line : List ℕ) (next : TextPlace) → IsEndNext of line next → IsOneLine line
 end-one None line next a = floor-one line a.floor a.is
@@ -116,8 +118,8 @@ next_is_one_line (AtTree part (suc places) (suc left)) line next a =
     one-along line (entry_line a.entry) a.is (one-of (entry_line a.entry) (entry_words a.entry) (entry_line-words a.entry) (entry-whole a.entry))
 next_is_one_line (AtTree part zero (suc left)) line next a = absurd a
 next_is_one_line (AtTree part (suc places) zero) line next a = absurd a
-next_is_one_line (AtTree Proof zero zero) line next a = part-line-one Unfinished line next a
-next_is_one_line (AtTree Unfinished zero zero) line next a = one-along line (codes "wide none") a.0 (written (codes "wide none") refl)
+next_is_one_line (AtTree Proof zero zero) line next a = part-line-one Undecided line next a
+next_is_one_line (AtTree Undecided zero zero) line next a = one-along line (codes "wide none") a.0 (written (codes "wide none") refl)
 next_is_one_line AtEnd line next a = one-along line (codes "end") a.0 (written (codes "end") refl)
 next_is_one_line AfterEnd line next a = absurd a
 next_is_one_line (AtOtherHead text) line next a = other-head-one text line a.0

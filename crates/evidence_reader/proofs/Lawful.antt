@@ -13,17 +13,17 @@ use Rattle.design_problem.specs.declared.answer.CostLine.{CostLine}
 use Rattle.design_problem.specs.declared.answer.Floor.{Floor}
 use Rattle.design_problem.specs.declared.answer.CapTree.{CapTree}
 use Rattle.design_problem.specs.Answers.{AnswerParts}
-use Rattle.design_problem.specs.Bounds.{IsCost, IsRowNumber, BoundsVerdict, BoundsFloor, BoundsRow, BoundsEntry, BoundsCosts, BoundsTree, HasBounds}
-use Rattle.design_problem.specs.Text.{row_line, entry_line, cost_lines, costs_lines, tree_lines, answer_lines, FitsEntry, FitsCostLine, FitsCosts, FitsTree, FitsAnswer}
+use Rattle.design_problem.specs.AnswerRanges.{IsCost, IsRowNumber, BoundsVerdict, BoundsFloor, BoundsRow, BoundsEntry, BoundsCosts, BoundsTree, HasBounds}
+use Rattle.design_problem.specs.Text.{row_line, entry_line, cost_lines, costs_lines, tree_lines, answer_lines, FitsEntry, FitsCostLine, FitsCosts, FitsTree, FitsAnswer, head_lines, interface_line, answer_cost_line, floor_line, rows_lines, end_lines, router_line}
 use Rattle.design_problem.specs.Trees.{subtree_count, AreSeveralTrees}
 use Rattle.answer_lines.specs.declared.other_text.OtherText.{OtherText}
 use Rattle.answer_lines.proofs.FirstLines.{has-room}
-use Rattle.answer_lines.specs.Grammar.{TextPlace, Next, IsInterfaceNext, AtHead, AtVerdict, AtCosts, AtSections, AtInterface, AtCost, AtExit, AtFloor, AtRows, AtRow, AtTree, AtEnd, AfterEnd, router_line}
-use Rattle.evidence_text.specs.Parts.{head_lines, interface_line, answer_cost_line, floor_line, rows_lines, part_word, end_lines}
+use Rattle.answer_lines.specs.Grammar.{TextPlace, Next, IsInterfaceNext, AtHead, AtVerdict, AtCosts, AtSections, AtInterface, AtCost, AtExit, AtFloor, AtRows, AtRow, AtTree, AtEnd, AfterEnd}
+use Rattle.evidence_text.specs.Parts.{part_word}
 use Rattle.answer_lines.specs.Lawful.{LeadOn}
 use Rattle.evidence_reader.specs.Stages.{before_part}
 use Rattle.evidence_text.specs.declared.TreePart.{TreePart}
-use Rattle.evidence_text.specs.declared.TreePart.TheVariants.{Proof, Unfinished}
+use Rattle.evidence_text.specs.declared.TreePart.TheVariants.{Proof, Undecided}
 use Rattle.evidence_text.proofs.AnswerOrder.{answer_lines-ordered, ordered}
 use Rattle.evidence_reader.proofs.SectionLines.{router_before}
 use Rattle.evidence_reader.proofs.TreeLines.{part_says}
@@ -61,7 +61,8 @@ interface-is : (of : Option OtherText) (router : List ℕ) (line : CostLine) →
 interface-is of router line fits = record { name = line.interface; word = fits.interface; is = refl; leads = refl }
 
 -- a cost behind the line of its router
-section-on : (of : Option OtherText) (before : Option (List ℕ)) (line : CostLine) (rest : List (List ℕ)) (to : TextPlace) → before ≢ Some line.router → FitsCostLine line →
+section-on : (of : Option OtherText) (before : Option (List ℕ)) (line : CostLine) (rest : List (List ℕ)) (to : TextPlace) → before ≢ Some line.router →
+    FitsCostLine line →
     GoOn (AtCost of line.router) rest to → GoOn (AtSections of before) (router_line line.router ∷ interface_line line.interface ∷ rest) to
 section-on of before line rest to other fits behind = (
   AtInterface of line.router,
@@ -70,7 +71,8 @@ section-on of before line rest to other fits behind = (
 )
 
 -- a cost without or with the line of its router, as its router is that of the cost before or another one
-again-on : (of : Option OtherText) (before : List ℕ) (line : CostLine) (rest : List (List ℕ)) (to : TextPlace) (same : Bool) → same_bytes before line.router ≡ same → FitsCostLine line →
+again-on : (of : Option OtherText) (before : List ℕ) (line : CostLine) (rest : List (List ℕ)) (to : TextPlace) (same : Bool) →
+    same_bytes before line.router ≡ same → FitsCostLine line →
     GoOn (AtCost of line.router) rest to →
     GoOn (AtSections of (Some before))
     (cond same [] (router_line line.router ∷ []) ++ (interface_line line.interface ∷ rest)) to
@@ -150,7 +152,7 @@ tree-on part (Some t) fits bounds = (
   entries-on part 1 t.tree bounds.1 bounds.2 fits.entries,
 )
 
-end-on : GoOn (AtTree Unfinished 0 0) end_lines AfterEnd
+end-on : GoOn (AtTree Undecided 0 0) end_lines AfterEnd
 end-on = (AtEnd, (refl, refl), (AfterEnd, (refl, refl), refl))
 
 ordered-on : (a : AnswerParts) → FitsAnswer a → HasBounds a → IsRowNumber (length a.rows) → GoOn AtHead (ordered a) AfterEnd
@@ -161,8 +163,8 @@ ordered-on a fits bounds count =
       floor-on a.costs a.floor bounds.floor,
       go-then AtRows (AtRow 0) AfterEnd (rows_lines a.rows) _ (rows-on a.rows count bounds.rows)
           (go-then (AtRow 0) (AtTree Proof 0 0) AfterEnd (tree_lines (codes "proof") a.proof) _ (tree-on Proof a.proof fits.proof bounds.proof)
-          (go-then (AtTree Proof 0 0) (AtTree Unfinished 0 0) AfterEnd (tree_lines (codes "open") a.unfinished)
-          end_lines (tree-on Unfinished a.unfinished fits.unfinished bounds.unfinished) end-on)),
+          (go-then (AtTree Proof 0 0) (AtTree Undecided 0 0) AfterEnd (tree_lines (codes "open") a.undecided)
+          end_lines (tree-on Undecided a.undecided fits.undecided bounds.undecided) end-on)),
     ))
 
 -- the lines of an answer whose rows have a number of 64 bits lead from the head behind the end

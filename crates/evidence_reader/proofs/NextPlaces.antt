@@ -9,7 +9,7 @@ use Rattle.evidence_reader.specs.declared.fault.AnswerFault.{AnswerFault}
 use Rattle.text_lines.proofs.LineLaws.{with_ends-append}
 use Rattle.evidence_reader.specs.Refusals.{IsTextRefused, IsReaderStop}
 
-lead-then : (from mid to : TextPlace) (xs ys : List (List ℕ)) → LeadOn from xs mid → LeadOn mid ys to → LeadOn from (xs ++ ys) to
+pub lead-then : (from mid to : TextPlace) (xs ys : List (List ℕ)) → LeadOn from xs mid → LeadOn mid ys to → LeadOn from (xs ++ ys) to
 lead-then from mid to [] ys first second = subst (λ p. LeadOn p ys to) (sym first) second
 lead-then from mid to (x ∷ xs) ys first second = (first.0, first.1, lead-then first.0 mid to xs ys first.2 second)
 
@@ -17,17 +17,6 @@ parts-then : (bytes middle left : List ℕ) (xs ys : List (List ℕ)) → bytes 
     middle ≡ with_ends ys ++ left → bytes ≡ with_ends (xs ++ ys) ++ left
 parts-then bytes middle left xs ys first second =
     first ∙ ap (λ t. with_ends xs ++ t) second ∙ sym (append_assoc (with_ends xs) (with_ends ys) left) ∙ ap (λ t. t ++ left) (sym (with_ends-append xs ys))
-
--- more lines are read behind some
-pub read-then : (from mid to : TextPlace) (b0 b1 b2 : ℕ) (bytes middle left : List ℕ) (xs ys : List (List ℕ)) →
-    IsRead from b0 bytes xs mid b1 middle → IsRead mid b1 middle ys to b2 left →
-    IsRead from b0 bytes (xs ++ ys) to b2 left
-read-then from mid to b0 b1 b2 bytes middle left xs ys first second =
-    record {
-      lead = lead-then from mid to xs ys first.lead second.lead;
-      parts = parts-then bytes middle left xs ys first.parts second.parts;
-      count = omega (arith, first.count, second.count, length-append xs ys);
-    }
 
 -- a refusal behind lines that were read
 pub refused-then : (from mid : TextPlace) (b0 b1 : ℕ) (bytes middle : List ℕ) (xs : List (List ℕ)) (kind : AnswerFault)
@@ -54,4 +43,9 @@ stop-then OutOfMemory first second = tt
 pub go-then : {from mid to : TextPlace} {b0 b1 b2 : ℕ} {bytes middle left : List ℕ} {xs ys : List (List ℕ)} →
     IsRead from b0 bytes xs mid b1 middle → IsRead mid b1 middle ys to b2 left →
     IsRead from b0 bytes (xs ++ ys) to b2 left
-go-then {from} {mid} {to} {b0} {b1} {b2} {bytes} {middle} {left} {xs} {ys} first second = read-then from mid to b0 b1 b2 bytes middle left xs ys first second
+go-then {from} {mid} {to} {b0} {b1} {b2} {bytes} {middle} {left} {xs} {ys} first second =
+    record {
+      lead = lead-then from mid to xs ys first.lead second.lead;
+      parts = parts-then bytes middle left xs ys first.parts second.parts;
+      count = omega (arith, first.count, second.count, length-append xs ys);
+    }

@@ -23,18 +23,18 @@ text-lines a fits =
     lines-concat (answer_lines a) (subst (λ (l : List (List ℕ)). All IsOneLine l) (sym (answer_lines-ordered a)) (ordered-one a fits)) ∙ answer_lines-ordered a
 
 abbrev answer : Verdict → Option Costs → Floor → List Row → Option CapTree → Option CapTree → AnswerParts
-answer verdict costs floor rows proof unfinished =
-    record { verdict = verdict; costs = costs; floor = floor; rows = rows; proof = proof; unfinished = unfinished }
+answer verdict costs floor rows proof undecided =
+    record { verdict = verdict; costs = costs; floor = floor; rows = rows; proof = proof; undecided = undecided }
 
 parts-same : (a b : AnswerParts) → a.verdict ≡ b.verdict → a.costs ≡ b.costs → a.floor ≡ b.floor →
-    a.rows ≡ b.rows → a.proof ≡ b.proof → a.unfinished ≡ b.unfinished → a ≡ b
-parts-same a b verdict costs floor rows proof unfinished =
-    ap (λ x. answer x a.costs a.floor a.rows a.proof a.unfinished) verdict
-    ∙ ap (λ x. answer b.verdict x a.floor a.rows a.proof a.unfinished) costs
-    ∙ ap (λ x. answer b.verdict b.costs x a.rows a.proof a.unfinished) floor
-    ∙ ap (λ x. answer b.verdict b.costs b.floor x a.proof a.unfinished) rows
-    ∙ ap (λ x. answer b.verdict b.costs b.floor b.rows x a.unfinished) proof
-    ∙ ap (answer b.verdict b.costs b.floor b.rows b.proof) unfinished
+    a.rows ≡ b.rows → a.proof ≡ b.proof → a.undecided ≡ b.undecided → a ≡ b
+parts-same a b verdict costs floor rows proof undecided =
+    ap (λ x. answer x a.costs a.floor a.rows a.proof a.undecided) verdict
+    ∙ ap (λ x. answer b.verdict x a.floor a.rows a.proof a.undecided) costs
+    ∙ ap (λ x. answer b.verdict b.costs x a.rows a.proof a.undecided) floor
+    ∙ ap (λ x. answer b.verdict b.costs b.floor x a.proof a.undecided) rows
+    ∙ ap (λ x. answer b.verdict b.costs b.floor b.rows x a.undecided) proof
+    ∙ ap (answer b.verdict b.costs b.floor b.rows b.proof) undecided
 
 -- answers with the same lines are one
 lines-tell : (a b : AnswerParts) → ordered a ≡ ordered b → a ≡ b
@@ -43,9 +43,9 @@ lines-tell a b e =
     let costs = costs-same a.costs b.costs a.floor b.floor (after_floor a) (after_floor b) (tail-is _ _ _ _ behind) in
     let rows = rows-same a.rows b.rows (after_rows a) (after_rows b) (tail-is _ _ _ _ costs.1) in
     let proof = tree-same (codes "proof") (spaceless-from (codes "proof") refl) a.proof b.proof (after_proof a) (after_proof b) rows.1 in
-    let unfinished = tree-same (codes "open") (spaceless-from (codes "open") refl) a.unfinished b.unfinished _ _ proof.1 in
+    let undecided = tree-same (codes "open") (spaceless-from (codes "open") refl) a.undecided b.undecided _ _ proof.1 in
     parts-same a b (verdict-same a.verdict b.verdict (head-is _ _ _ _ behind)) costs.0
-    (floor_line-same a.floor b.floor (head-is _ _ _ _ costs.1)) rows.0 proof.0 unfinished.0
+    (floor_line-same a.floor b.floor (head-is _ _ _ _ costs.1)) rows.0 proof.0 undecided.0
 
 pub texts_tell : OneAnswer
 texts_tell a b first second e = lines-tell a b (sym (text-lines a first.costs) ∙ ap lines e ∙ text-lines b second.costs)

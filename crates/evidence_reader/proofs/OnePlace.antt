@@ -6,16 +6,16 @@ use Rattle.std.specs.List.{list_all}
 use Rattle.cost_base.specs.Decimal.{is_digit, decimal}
 use Rattle.design_problem.specs.declared.tree.Entry.{Entry}
 use Rattle.design_problem.specs.declared.tree.Entry.TheVariants.{Tighten, Split, Halve, Refute, Undone}
-use Rattle.design_problem.specs.Text.{spaced, part_words, entry_line}
+use Rattle.design_problem.specs.Text.{spaced, multiplier_words, entry_line, interface_line}
 use Rattle.design_problem.specs.Trees.{subtree_count}
 use Rattle.text_lines.specs.Numbers.{split}
 use Rattle.text_lines.proofs.Printed.{decimal-same, decimal-digits}
 use Rattle.answer_lines.specs.declared.other_text.OtherText.{OtherText}
 use Rattle.answer_lines.specs.declared.other_text.OtherText.TheVariants.{Total, Spread, Change}
 use Rattle.answer_lines.specs.Grammar.{TextPlace, AtHead, AtVerdict, AtCosts, AtSections, AtInterface, AtCost, AtExit, AtFloor, AtRows, AtRow, AtTree, AtEnd, AfterEnd, AtOtherHead, AtInnerHead, AtOtherVerdict, AtOtherCosts, AtSectionsEnd, AtUnread, Next, IsRouterNext, IsInterfaceAgain, IsEndNext, IsPartNext, costs_front}
-use Rattle.evidence_text.specs.Parts.{part_word, no_tree_line, tree_line, interface_line}
+use Rattle.evidence_text.specs.Parts.{part_word, no_tree_line, tree_line}
 use Rattle.evidence_text.specs.declared.TreePart.{TreePart}
-use Rattle.evidence_text.specs.declared.TreePart.TheVariants.{Proof, Unfinished}
+use Rattle.evidence_text.specs.declared.TreePart.TheVariants.{Proof, Undecided}
 use Rattle.answer_lines.proofs.ListParts.{head-is, tail-is}
 use Rattle.answer_lines.proofs.LineWords.{tree-words}
 
@@ -50,7 +50,7 @@ said_count-entry : (entry : Entry) → said_count (entry_line entry) ≡ subtree
 said_count-entry (Tighten v side bound row) = refl
 said_count-entry (Split v bound) = refl
 said_count-entry (Halve v bound wide) = refl
-said_count-entry (Refute parts) = said_count-refute (part_words parts)
+said_count-entry (Refute parts) = said_count-refute (multiplier_words parts)
 said_count-entry Undone = refl
 
 subtrees-same : (line : List ℕ) (a b : Entry) → line ≡ entry_line a → line ≡ entry_line b → subtree_count a ≡ subtree_count b
@@ -120,7 +120,7 @@ other-costs-once text line next other (inr a) (inr b) = a.1 ∙ sym b.1
 -- a part without a tree has the words of no tree's head
 none-words : (part : TreePart) → split 32 (no_tree_line part) ≡ part_word part ∷ codes "none" ∷ []
 none-words Proof = refl
-none-words Unfinished = refl
+none-words Undecided = refl
 
 none-tree : (line : List ℕ) (part : TreePart) (cap count : ℕ) → line ≡ no_tree_line part → line ≡ tree_line part cap count → ⊥
 none-tree line part cap count first second =
@@ -159,8 +159,8 @@ one_place (AtTree part (suc places) (suc left)) line next other a b =
     a.leads ∙ ap (λ n. AtTree part (n + places) left) (subtrees-same line a.entry b.entry a.is b.is) ∙ sym b.leads
 one_place (AtTree part zero (suc left)) line next other a b = absurd a
 one_place (AtTree part (suc places) zero) line next other a b = absurd a
-one_place (AtTree Proof zero zero) line next other a b = part-once Unfinished line next other a b
-one_place (AtTree Unfinished zero zero) line next other a b = a.1 ∙ sym b.1
+one_place (AtTree Proof zero zero) line next other a b = part-once Undecided line next other a b
+one_place (AtTree Undecided zero zero) line next other a b = a.1 ∙ sym b.1
 one_place AtEnd line next other a b = a.1 ∙ sym b.1
 one_place AfterEnd line next other a b = absurd a
 one_place (AtOtherHead text) line next other a b = a.1 ∙ sym b.1

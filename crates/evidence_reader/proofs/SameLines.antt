@@ -14,10 +14,8 @@ use Rattle.design_problem.specs.declared.answer.Costs.{Costs}
 use Rattle.design_problem.specs.declared.answer.CostLine.{CostLine}
 use Rattle.design_problem.specs.declared.answer.Floor.{Floor}
 use Rattle.design_problem.specs.declared.answer.CapTree.{CapTree}
-use Rattle.design_problem.specs.Text.{cost_lines, costs_lines, row_line, entry_line, tree_lines}
+use Rattle.design_problem.specs.Text.{cost_lines, costs_lines, row_line, entry_line, tree_lines, interface_line, answer_cost_line, floor_line, rows_lines, router_line}
 use Rattle.text_lines.proofs.Printed.{decimal-same}
-use Rattle.answer_lines.specs.Grammar.{router_line}
-use Rattle.evidence_text.specs.Parts.{interface_line, answer_cost_line, floor_line, rows_lines}
 use Rattle.answer_lines.proofs.ListParts.{head-is, tail-is}
 use Rattle.answer_lines.proofs.SpacedWords.{spaceless-from, decimal-spaceless}
 use Rattle.evidence_reader.proofs.SameWords.{no_digits, second-same, later-same, floor-same, row-same, entry-same}

@@ -1,6 +1,5 @@
 -- What words say is read off them: equal words say the same.
-use Rattle.std.proofs.Common.{◌≡◌, ℕ, ◌+◌, ◌-◌, List, [], ◌∷◌, All, map, codes, eqb, cond, true, false, ℤ, pos, negsuc, refl, sym, ap, ◌∙◌, arith}
-use Rattle.std.proofs.lemmas.Bool.{and_parts, ne_eqb}
+use Rattle.std.proofs.Common.{◌≡◌, ℕ, ◌+◌, ◌-◌, List, [], ◌∷◌, All, map, codes, eqb, cond, false, ℤ, pos, negsuc, refl, sym, ap, ◌∙◌, arith}
 use Rattle.std.proofs.lemmas.List.{append_cancel_left}
 use Rattle.std.proofs.lemmas.List.Elements.{All-nil, All-cons, All-head, All-tail}
 use Rattle.std.specs.List.{list_all}
@@ -22,7 +21,7 @@ use Rattle.design_problem.specs.declared.answer.Verdict.{Verdict}
 use Rattle.design_problem.specs.declared.answer.Verdict.TheVariants.{Optimal, Impossible, Undecided}
 use Rattle.design_problem.specs.declared.answer.Floor.{Floor}
 use Rattle.design_problem.specs.declared.answer.Floor.TheVariants.{Absent, Empty, Var}
-use Rattle.design_problem.specs.Text.{spaced, verdict_words, floor_word, row_line, side_word, step_word, integer, ratio_word, members_words, part_words, entry_line}
+use Rattle.design_problem.specs.Text.{spaced, verdict_words, floor_word, row_line, side_word, step_word, integer, ratio_word, members_words, multiplier_words, entry_line}
 use Rattle.text_lines.specs.Lines.{grow}
 use Rattle.text_lines.specs.Numbers.{split}
 use Rattle.text_lines.proofs.Printed.{decimal-digits, decimal_value-decimal}
@@ -33,6 +32,7 @@ use Rattle.answer_lines.proofs.LineEntries.{pieces-entry}
 use Rattle.answer_lines.proofs.LineFronts.{split-front}
 use Rattle.answer_lines.proofs.LineWords.{row-words}
 use Rattle.answer_lines.proofs.SpacedWords.{spaceless-from, decimal-spaceless, split-spaced}
+use Rattle.answer_lines.proofs.RatioWords.{integer-unslashed}
 
 -- a word that isn't all digits is no number's
 pub no_digits : (w : List ℕ) (n : ℕ) → list_all is_digit w ≡ false → w ≡ decimal n → ⊥
@@ -140,17 +140,6 @@ integer-back (negsuc n) =
     let less : n + 1 - 1 ≡ n = omega arith in
     ap (λ m. negsuc (m - 1)) (decimal_value-decimal (n + 1)) ∙ ap negsuc less
 
--- digits hold no other byte
-digits-lack : (c : ℕ) (w : List ℕ) → is_digit c ≡ false → list_all is_digit w ≡ true → All (λ x. eqb x c ≡ false) w
-digits-lack c [] other digits = All-nil (λ x. eqb x c ≡ false)
-digits-lack c (d ∷ ds) other digits =
-    let parts = and_parts (is_digit d) (list_all is_digit ds) digits in
-    All-cons (λ x. eqb x c ≡ false) d ds (ne_eqb d c (λ e. not-both (is_digit c) (ap is_digit (sym e) ∙ parts.0) other)) (digits-lack c ds other parts.1)
-
-integer-slashless : (z : ℤ) → All (λ x. eqb x 47 ≡ false) (integer z)
-integer-slashless (pos n) = digits-lack 47 (decimal n) refl (decimal-digits n)
-integer-slashless (negsuc n) = All-cons (λ x. eqb x 47 ≡ false) 45 (decimal (n + 1)) refl (digits-lack 47 (decimal (n + 1)) refl (decimal-digits (n + 1)))
-
 -- a word without a byte is its only piece
 split-only : (c : ℕ) (w : List ℕ) → All (λ x. eqb x c ≡ false) w → split c w ≡ w ∷ []
 split-only c [] others = refl
@@ -174,7 +163,7 @@ ratio-back q =
     let above : List ℕ = integer q.numerator in
     let below : List ℕ = integer q.denominator in
     let cut : split 47 (ratio_word q) ≡ above ∷ below ∷ [] =
-    split-front 47 above below (integer-slashless q.numerator) ∙ ap (λ l. above ∷ l) (split-only 47 below (integer-slashless q.denominator)) in
+    split-front 47 above below (integer-unslashed q.numerator) ∙ ap (λ l. above ∷ l) (split-only 47 below (integer-unslashed q.denominator)) in
     ap ratio_of_pieces cut ∙ together (integer_of above) q.numerator (integer_of below) q.denominator (integer-back q.numerator) (integer-back q.denominator)
   where
     together : (a c b d : ℤ) → a ≡ c → b ≡ d → ratio a b ≡ ratio c d
@@ -212,11 +201,11 @@ parts_of [] = []
 parts_of (a ∷ []) = []
 parts_of (a ∷ b ∷ rest) = (decimal_value a, decimal_value b) ∷ parts_of rest
 
-parts-back : (ps : List (ℕ × ℕ)) → parts_of (part_words ps) ≡ ps
+parts-back : (ps : List (ℕ × ℕ)) → parts_of (multiplier_words ps) ≡ ps
 parts-back [] = refl
 parts-back (p ∷ ps) =
-    ap (λ x. (x, decimal_value (decimal p.1)) ∷ parts_of (part_words ps)) (decimal_value-decimal p.0)
-    ∙ ap (λ y. (p.0, y) ∷ parts_of (part_words ps)) (decimal_value-decimal p.1) ∙ ap (λ l. p ∷ l) (parts-back ps)
+    ap (λ x. (x, decimal_value (decimal p.1)) ∷ parts_of (multiplier_words ps)) (decimal_value-decimal p.0)
+    ∙ ap (λ y. (p.0, y) ∷ parts_of (multiplier_words ps)) (decimal_value-decimal p.1) ∙ ap (λ l. p ∷ l) (parts-back ps)
 
 abbrev wide_at : StepName → Ratio → Ratio → List Member → WideAt
 wide_at step left right basis = record { step = step; left = left; right = right; basis = basis }

@@ -4,13 +4,12 @@ use Rattle.std.specs.Cmp.Lexicographic.{pointwise_decides}
 use Rattle.std.proofs.lemmas.Bool.Decides.{Decides-eqb}
 use Rattle.cost_base.specs.Lists.{same_bytes}
 use Rattle.design_problem.specs.declared.answer.CostLine.{CostLine}
-use Rattle.design_problem.specs.Text.{router_lines, cost_lines}
+use Rattle.design_problem.specs.Text.{router_lines, cost_lines, interface_line, answer_cost_line, interface_lines, router_line}
 use Rattle.answer_lines.specs.declared.other_text.OtherText.{OtherText}
-use Rattle.answer_lines.specs.Grammar.{TextPlace, Next, IsRouterNext, IsInterfaceNext, IsInterfaceAgain, IsEndNext, AtSections, AtInterface, AtCost, router_line}
+use Rattle.answer_lines.specs.Grammar.{TextPlace, Next, IsRouterNext, IsInterfaceNext, IsInterfaceAgain, IsEndNext, AtSections, AtInterface, AtCost}
 use Rattle.answer_lines.specs.Places.{IsFirstInText, LacksLawful}
 use Rattle.evidence_reader.specs.Sections.{IsCostBegun, LacksCost}
 use Rattle.text_lines.specs.Lines.{with_ends}
-use Rattle.evidence_text.specs.Parts.{interface_line, answer_cost_line, interface_lines}
 use Rattle.answer_lines.specs.Lawful.{LineLeads, IsRead}
 use Rattle.answer_lines.proofs.LineFronts.{first-one}
 use Rattle.evidence_reader.specs.Stages.{IsSectionLine, behind_section_line, words_lines}
@@ -95,7 +94,8 @@ pub interface_section : (of : Option OtherText) (before : Option (List ℕ)) (na
     IsRead (AtSections of before) b0 bytes (router_lines before words.router.now ++ words_lines words) (AtSections of (Some words.router.now)) b2 left
 interface_section of before name interface line words {b0} {b1} {b2} {bytes} {middle} {left} again is same named first second =
     subst (λ r. IsRead (AtSections of before) b0 bytes (router_lines before r ++ words_lines words) (AtSections of (Some r)) b2 left) (sym same)
-    (subst (λ front. IsRead (AtSections of before) b0 bytes (front ++ words_lines words) (AtSections of (Some name)) b2 left) (sym (same_router before name again))
+    (subst (λ front. IsRead (AtSections of before) b0 bytes (front ++ words_lines words) (AtSections of (Some name)) b2 left)
+    (sym (same_router before name again))
     (words_read of name interface line words is named first second))
 
 -- a line of one more cost is in the grammar among the sections

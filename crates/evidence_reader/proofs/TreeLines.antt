@@ -14,7 +14,7 @@ use Rattle.answer_lines.specs.Lawful.{IsRead}
 use Rattle.evidence_reader.specs.Refusals.{IsReaderStop}
 use Rattle.evidence_reader.specs.Stages.{before_part}
 use Rattle.evidence_text.specs.declared.TreePart.{TreePart}
-use Rattle.evidence_text.specs.declared.TreePart.TheVariants.{Proof, Unfinished}
+use Rattle.evidence_text.specs.declared.TreePart.TheVariants.{Proof, Undecided}
 use Rattle.evidence_reader.specs.declared.fault.AnswerFault.{AnswerFault}
 use Rattle.answer_lines.proofs.FirstLines.{AreReadAt, read-none}
 use Rattle.evidence_reader.proofs.NextPlaces.{go-then, stop-then}
@@ -23,16 +23,16 @@ use Rattle.evidence_reader.proofs.CountedLines.{one_left}
 -- the line that a part begins with is read
 pub part-read : (part : TreePart) → AreReadAt (before_part part)
 part-read Proof line short = short
-part-read Unfinished line short = short
+part-read Undecided line short = short
 
 -- the lines before a part are those that it begins with
 pub part_said : (part : TreePart) (line : List ℕ) (next : TextPlace) → Next (before_part part) line next → IsPartNext part line next
 part_said Proof line next is = is
-part_said Unfinished line next is = is
+part_said Undecided line next is = is
 
 pub part_says : (part : TreePart) (line : List ℕ) (next : TextPlace) → IsPartNext part line next → Next (before_part part) line next
 part_says Proof line next is = is
-part_says Unfinished line next is = is
+part_says Undecided line next is = is
 
 -- no line is in the grammar here
 abbrev pub IsShut : TextPlace → List ℕ → Type 0

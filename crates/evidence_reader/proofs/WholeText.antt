@@ -3,14 +3,13 @@ use Rattle.std.proofs.Common.{◌≡◌, ℕ, zero, suc, ◌≤◌, Some, None, 
 use Rattle.std.proofs.lemmas.List.Elements.{All-nil, All-cons}
 use Rattle.cost_base.specs.declared.refusal.Refusal.{Refusal}
 use Rattle.design_problem.specs.Answers.{AnswerParts}
-use Rattle.design_problem.specs.Text.{costs_lines, tree_lines, text, FitsCosts, FitsTree, FitsAnswer}
+use Rattle.design_problem.specs.Text.{costs_lines, tree_lines, text, FitsCosts, FitsTree, FitsAnswer, head_lines, floor_line, rows_lines, end_lines}
 use Rattle.answer_lines.specs.Grammar.{TextPlace, Next, AtHead, AtVerdict, AtCosts, AtSections, AtInterface, AtCost, AtExit, AtFloor, AtRows, AtRow, AtTree, AtEnd, AfterEnd, AtOtherHead, AtInnerHead, AtOtherVerdict, AtOtherCosts, AtSectionsEnd, AtUnread}
 use Rattle.text_lines.specs.Lines.{with_ends}
 use Rattle.evidence_text.specs.Lines.{AreShort}
-use Rattle.evidence_text.specs.Parts.{head_lines, floor_line, rows_lines, end_lines}
 use Rattle.answer_lines.specs.Lawful.{HasLineRoom, LeadOn, IsRead}
 use Rattle.evidence_reader.specs.Refusals.{IsReaderStop}
-use Rattle.evidence_text.specs.declared.TreePart.TheVariants.{Proof, Unfinished}
+use Rattle.evidence_text.specs.declared.TreePart.TheVariants.{Proof, Undecided}
 use Rattle.evidence_reader.specs.declared.fault.AnswerFault.{AnswerFault}
 use Rattle.evidence_text.proofs.AnswerOrder.{ordered, after_floor, answer_lines-ordered}
 use Rattle.evidence_reader.proofs.NextPlaces.{go-then}
@@ -26,11 +25,11 @@ pub parts_read : (a : AnswerParts) {b0 b1 b2 b3 b4 b5 b6 : ℕ} {bytes behind_he
     IsRead AtCosts b1 behind_head (costs_lines a.costs ++ floor_line a.floor ∷ []) AtRows b2 behind_costs →
     IsRead AtRows b2 behind_costs (rows_lines a.rows) (AtRow 0) b3 behind_rows →
     IsRead (AtRow 0) b3 behind_rows (tree_lines (codes "proof") a.proof) (AtTree Proof 0 0) b4 behind_proof →
-    IsRead (AtTree Proof 0 0) b4 behind_proof (tree_lines (codes "open") a.unfinished) (AtTree Unfinished 0 0) b5 behind_trees →
-    IsRead (AtTree Unfinished 0 0) b5 behind_trees end_lines AfterEnd b6 [] →
+    IsRead (AtTree Proof 0 0) b4 behind_proof (tree_lines (codes "open") a.undecided) (AtTree Undecided 0 0) b5 behind_trees →
+    IsRead (AtTree Undecided 0 0) b5 behind_trees end_lines AfterEnd b6 [] →
     IsRead AtHead b0 bytes (ordered a) AfterEnd b6 []
-parts_read a {b0} {b1} {b2} {b3} {b4} {b5} {b6} {bytes} {behind_head} head costs rows proof unfinished end =
-    let others = go-then rows (go-then proof (go-then unfinished end)) in
+parts_read a {b0} {b1} {b2} {b3} {b4} {b5} {b6} {bytes} {behind_head} head costs rows proof undecided end =
+    let others = go-then rows (go-then proof (go-then undecided end)) in
     go-then head
     (subst (λ lines. IsRead AtCosts b1 behind_head lines AfterEnd b6 [])
     (append_assoc (costs_lines a.costs) (floor_line a.floor ∷ []) (after_floor a)) (go-then costs others))
@@ -73,7 +72,7 @@ own-next (AtTree part zero (suc left)) line next own is short = absurd is
 own-next (AtTree part (suc places) zero) line next own is short = absurd is
 own-next (AtTree Proof zero zero) line next own (inl none) short = rw none.1 (tt, short)
 own-next (AtTree Proof zero zero) line next own (inr some) short = rw some.leads (tt, short)
-own-next (AtTree Unfinished zero zero) line next own is short = rw is.1 (tt, short)
+own-next (AtTree Undecided zero zero) line next own is short = rw is.1 (tt, short)
 own-next AtEnd line next own is short = rw is.1 (tt, short)
 own-next AfterEnd line next own is short = absurd is
 own-next (AtSections (Some text) before) line next own is short = absurd own
@@ -101,11 +100,11 @@ text_read a before bytes whole same read = sym same ∙ read.parts ∙ append-ni
 
 -- an answer whose lines were read keeps what every answer keeps
 pub answer_kept : (a : AnswerParts) {b0 b : ℕ} {bytes : List ℕ} → FitsCosts a.costs → FitsTree a.proof →
-    FitsTree a.unfinished → IsRead AtHead b0 bytes (ordered a) AfterEnd b [] → FitsAnswer a
-answer_kept a costs proof unfinished read =
+    FitsTree a.undecided → IsRead AtHead b0 bytes (ordered a) AfterEnd b [] → FitsAnswer a
+answer_kept a costs proof undecided read =
     record {
       costs = costs;
       proof = proof;
-      unfinished = unfinished;
+      undecided = undecided;
       lines = subst AreShort (sym (answer_lines-ordered a)) (lead-short AtHead AfterEnd (ordered a) tt read.lead);
     }

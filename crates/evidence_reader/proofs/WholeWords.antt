@@ -18,7 +18,7 @@ use Rattle.design_problem.specs.declared.answer.Verdict.{Verdict}
 use Rattle.design_problem.specs.declared.answer.Verdict.TheVariants.{Optimal, Impossible, Undecided}
 use Rattle.design_problem.specs.declared.answer.Floor.{Floor}
 use Rattle.design_problem.specs.declared.answer.Floor.TheVariants.{Absent, Empty, Var}
-use Rattle.design_problem.specs.Text.{spaced, verdict_words, floor_word, side_word, step_word, integer, ratio_word, members_words, part_words, entry_line}
+use Rattle.design_problem.specs.Text.{spaced, verdict_words, floor_word, side_word, step_word, integer, ratio_word, members_words, multiplier_words, entry_line}
 use Rattle.text_lines.specs.Lines.{IsOneLine}
 use Rattle.text_lines.proofs.WordLaws.{word-line, decimal-word}
 use Rattle.answer_lines.specs.Words.{entry_words}
@@ -88,7 +88,7 @@ members-whole (Low v b ∷ ms) = (written (codes "low") refl, (number-whole v, (
 members-whole (High v b ∷ ms) = (written (codes "high") refl, (number-whole v, (number-whole b, members-whole ms)))
 members-whole (ByRow row ∷ ms) = (written (codes "row") refl, (number-whole row, members-whole ms))
 
-pub parts-whole : (ps : List (ℕ × ℕ)) → AreWhole (part_words ps)
+pub parts-whole : (ps : List (ℕ × ℕ)) → AreWhole (multiplier_words ps)
 parts-whole [] = tt
 parts-whole (p ∷ ps) = (number-whole p.0, (number-whole p.1, parts-whole ps))
 

@@ -1,12 +1,12 @@
 -- What the stages of a reader find, and where each leads. No public clause cites it.
 use Rattle.std.specs.Prelude.{◌≡◌, ◌≢◌, ℕ, zero, ◌<◌, List, [], ◌∷◌, ◌++◌, codes, Option, Some, None}
 use Rattle.cost_base.specs.Words.{IsOneWord}
-use Rattle.design_problem.specs.Text.{router_lines}
-use Rattle.evidence_text.specs.Parts.{costs_line, interface_line, answer_cost_line, no_tree_line, tree_line}
+use Rattle.design_problem.specs.Text.{router_lines, costs_line, interface_line, answer_cost_line, router_line}
+use Rattle.evidence_text.specs.Parts.{no_tree_line, tree_line}
 use Rattle.answer_lines.specs.declared.other_text.OtherText.{OtherText}
-use Rattle.answer_lines.specs.Grammar.{TextPlace, AtSections, AtInterface, AtCost, AtFloor, AtRow, AtTree, router_line}
+use Rattle.answer_lines.specs.Grammar.{TextPlace, AtSections, AtInterface, AtCost, AtFloor, AtRow, AtTree}
 use Rattle.evidence_text.specs.declared.TreePart.{TreePart}
-use Rattle.evidence_text.specs.declared.TreePart.TheVariants.{Proof, Unfinished}
+use Rattle.evidence_text.specs.declared.TreePart.TheVariants.{Proof, Undecided}
 use Rattle.evidence_reader.specs.declared.stage_costs.CostsHead.{CostsHead}
 use Rattle.evidence_reader.specs.declared.stage_costs.CostsHead.TheVariants.{NoCosts, Greatest}
 use Rattle.evidence_reader.specs.declared.stage_sections.SectionLine.{SectionLine}
@@ -52,7 +52,7 @@ lines_of_words before words = router_lines before words.router.now ++ words_line
 -- the place before a part of an answer that may have a tree
 abbrev pub before_part : TreePart → TextPlace
 before_part Proof = AtRow zero
-before_part Unfinished = AtTree Proof zero zero
+before_part Undecided = AtTree Proof zero zero
 
 -- the first line of a part: without a tree, or with a tree's cap and count
 abbrev pub part_head_line : TreePart → PartHead → List ℕ

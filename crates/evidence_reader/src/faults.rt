@@ -17,10 +17,7 @@ pub fn fault_at(text: TextLeft<'_>, begins: bool) -> Refusal<AnswerFault>
         StopsReader place text.entry result }
     ensures told { result ≢ Refusal.OutOfMemory }
 {
-    Refusal::Refused {
-        fault: fault_kind(text.left, begins),
-        place: text.read + 1,
-    }
+    Refusal::at(text.read + 1, fault_kind(text.left, begins))
 }
 
 /// Whether a line is at fault or the end of the text comes too early.
@@ -53,9 +50,6 @@ pub fn nothing_left(text: TextLeft<'_>) -> Result<(), Refusal<AnswerFault>>
     if text.left.is_empty() {
         Ok(())
     } else {
-        Err(Refusal::Refused {
-            fault: AnswerFault::AfterEnd,
-            place: text.read + 1,
-        })
+        Err(Refusal::at(text.read + 1, AnswerFault::AfterEnd))
     }
 }

@@ -32,7 +32,7 @@ pub fn read_answer(alloc: Global, bytes: &[u8]) -> Result<Answer, Refusal<Answer
     let (priced, behind_costs) = read_costs(alloc, behind_head)?;
     let (rows, behind_rows) = read_rows(alloc, behind_costs)?;
     let (proof, behind_proof) = read_tree(alloc, TreePart::Proof, behind_rows)?;
-    let (unfinished, behind_trees) = read_tree(alloc, TreePart::Unfinished, behind_proof)?;
+    let (undecided, behind_trees) = read_tree(alloc, TreePart::Undecided, behind_proof)?;
     read_end(behind_trees)?;
     Ok(Answer {
         verdict,
@@ -40,6 +40,6 @@ pub fn read_answer(alloc: Global, bytes: &[u8]) -> Result<Answer, Refusal<Answer
         floor: priced.floor,
         rows: Listed::from_items(rows),
         proof,
-        unfinished,
+        undecided,
     })
 }

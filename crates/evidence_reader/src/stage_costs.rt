@@ -1,10 +1,9 @@
 //! The stage of the costs, with the floor behind them.
 ghost use Rattle.std.specs.Prelude.{◌≡◌, [], ◌∷◌, ◌++◌, List, None, Some, All, MatchOption, MatchResult};
 ghost use Rattle.std.specs.Option.{option_copied};
-ghost use Rattle.design_problem.specs.Text.{cost_lines, costs_lines, FitsCostLine, FitsCosts};
+ghost use Rattle.design_problem.specs.Text.{cost_lines, costs_lines, FitsCostLine, FitsCosts, floor_line};
 ghost use Rattle.design_problem.specs.declared.answer.CostLine.{CostLine};
 ghost use Rattle.answer_lines.specs.Grammar.{TextPlace, Next, AtCosts, AtSections, AtFloor, AtRows};
-ghost use Rattle.evidence_text.specs.Parts.{floor_line};
 ghost use Rattle.answer_lines.specs.Places.{LacksLawful};
 ghost use Rattle.evidence_reader.specs.Sections.{LacksCost};
 ghost use Rattle.evidence_reader.specs.Stops.{StopsReader};

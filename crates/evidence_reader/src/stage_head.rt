@@ -2,7 +2,7 @@
 ghost use Rattle.std.specs.Prelude.{[], ◌∷◌, MatchResult};
 ghost use Rattle.answer_lines.specs.Grammar.{AtHead, AtVerdict, AtCosts, AtInnerHead, AtOtherVerdict, answer_head};
 ghost use Rattle.answer_lines.specs.declared.other_text.OtherText.TheVariants as other;
-ghost use Rattle.evidence_text.specs.Parts.{head_lines, verdict_line};
+ghost use Rattle.design_problem.specs.Text.{head_lines, verdict_line};
 ghost use Rattle.evidence_reader.specs.Stops.{StopsReader};
 ghost use Rattle.answer_lines.specs.Going.{Goes};
 

@@ -1,8 +1,7 @@
 //! The stage of the rows.
 ghost use Rattle.std.specs.Prelude.{◌≡◌, ℕ, zero, suc, [], ◌∷◌, MatchResult, IfOk, MatchOption, length, map};
-ghost use Rattle.design_problem.specs.Text.{row_line};
+ghost use Rattle.design_problem.specs.Text.{row_line, rows_line, rows_lines};
 ghost use Rattle.answer_lines.specs.Grammar.{AtRows, AtRow};
-ghost use Rattle.evidence_text.specs.Parts.{rows_line, rows_lines};
 ghost use Rattle.answer_lines.specs.Places.{LacksLawful};
 ghost use Rattle.evidence_reader.specs.Stops.{StopsReader};
 ghost use Rattle.answer_lines.specs.Going.{Goes};

@@ -2,11 +2,10 @@
 ghost use Rattle.std.specs.Prelude.{◌≡◌, ◌≢◌, ℕ, ◌<◌, List, [], ◌∷◌, ◌++◌, Option, None, Some, All, MatchOption, MatchResult, IfOk, IfSome, IsTrue, ◌↔◌, codes};
 ghost use Rattle.std.specs.Option.{option_copied};
 ghost use Rattle.cost_base.specs.Words.{IsOneWord};
-ghost use Rattle.design_problem.specs.Text.{cost_lines, FitsCostLine};
+ghost use Rattle.design_problem.specs.Text.{cost_lines, FitsCostLine, interface_line, answer_cost_line, router_line};
 ghost use Rattle.answer_lines.specs.declared.other_text.OtherText.{OtherText};
-ghost use Rattle.answer_lines.specs.Grammar.{TextPlace, IsRouterNext, router_line, AtSections, AtInterface, AtCost, AtExit};
-ghost use Rattle.design_problem.specs.Bounds.{IsCost};
-ghost use Rattle.evidence_text.specs.Parts.{interface_line, answer_cost_line};
+ghost use Rattle.answer_lines.specs.Grammar.{TextPlace, IsRouterNext, AtSections, AtInterface, AtCost, AtExit};
+ghost use Rattle.design_problem.specs.AnswerRanges.{IsCost};
 ghost use Rattle.answer_lines.specs.Places.{LacksLawful};
 ghost use Rattle.evidence_reader.specs.Sections.{IsCostBegun, LacksCost};
 ghost use Rattle.evidence_reader.specs.Stops.{StopsReader};
@@ -17,8 +16,8 @@ use crate::fault::AnswerFault;
 use crate::faults::fault_at;
 use answer_lines::{TextLeft, name_after, number_after};
 use begun_lines::{begins_cost, begins_exit, begins_interface};
-use cost_base::{Name, OutOfMemory, Refusal};
-use design_problem::CostLine;
+use cost_base::Refusal;
+use design_problem::{CostLine, cost_line};
 use std::alloc::Global;
 
 /// The cost lines of a text.
@@ -73,27 +72,10 @@ pub fn read_sections<'a>(
             };
             return Ok((sections, left));
         };
-        lines.push(cost_line_of(alloc, words)?)?;
+        lines.push(cost_line(alloc, words.router, words.interface, words.cost)?)?;
         before = Some(words.router);
         left = rest;
     }
-}
-
-/// The cost line that these words say.
-fn cost_line_of(alloc: Global, words: CostWords<'_>) -> Result<CostLine, OutOfMemory>
-    ensures { IfOk result (λ line. line ≡ record {
-      router = words.entry.router.now;
-      interface = words.entry.interface.now;
-      cost = words.entry.cost;
-    }) }
-{
-    let router = Name::from_bytes(alloc, words.router)?;
-    let interface = Name::from_bytes(alloc, words.interface)?;
-    Ok(CostLine {
-        router,
-        interface,
-        cost: words.cost,
-    })
 }
 
 /// The next cost line, where one begins here, and the text behind it.

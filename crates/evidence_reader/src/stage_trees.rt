@@ -73,7 +73,7 @@ fn begins_part(part: TreePart, rest: &[u8]) -> bool
 {
     match part {
         TreePart::Proof => begins_proof(rest),
-        TreePart::Unfinished => begins_open(rest),
+        TreePart::Undecided => begins_open(rest),
     }
 }
 

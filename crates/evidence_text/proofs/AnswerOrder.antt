@@ -5,10 +5,9 @@ use Rattle.design_problem.specs.declared.answer.CapTree.{CapTree}
 use Rattle.design_problem.specs.declared.answer.Costs.{Costs}
 use Rattle.design_problem.specs.declared.form.Row.{Row}
 use Rattle.design_problem.specs.Answers.{AnswerParts}
-use Rattle.design_problem.specs.Text.{costs_lines, tree_lines, answer_lines, text}
+use Rattle.design_problem.specs.Text.{costs_lines, tree_lines, answer_lines, text, head_lines, floor_line, rows_lines, end_lines}
 use Rattle.text_lines.specs.Lines.{with_ends}
 use Rattle.evidence_text.specs.Lines.{AreShort}
-use Rattle.evidence_text.specs.Parts.{head_lines, floor_line, rows_lines, end_lines}
 use Rattle.text_lines.proofs.LineLaws.{with_ends-append}
 use Rattle.evidence_text.proofs.TextLaws.{short_front, short_rest}
 
@@ -20,12 +19,12 @@ parts_held a = record {
   floor = a.floor;
   rows = a.rows;
   proof = a.proof;
-  unfinished = a.unfinished;
+  undecided = a.undecided;
 }
 
 -- what follows the proof
 abbrev pub after_proof : AnswerParts → List (List ℕ)
-after_proof a = tree_lines (codes "open") a.unfinished ++ end_lines
+after_proof a = tree_lines (codes "open") a.undecided ++ end_lines
 
 -- what follows the rows
 abbrev pub after_rows : AnswerParts → List (List ℕ)
@@ -54,7 +53,7 @@ answer_lines-ordered a =
     let B : List (List ℕ) = costs_lines a.costs in
     let C : List (List ℕ) = floor_line a.floor ∷ rows_lines a.rows in
     let D : List (List ℕ) = tree_lines (codes "proof") a.proof in
-    let E : List (List ℕ) = tree_lines (codes "open") a.unfinished in
+    let E : List (List ℕ) = tree_lines (codes "open") a.undecided in
     append_assoc (((A ++ B) ++ C) ++ D) E end_lines
     ∙ append_assoc ((A ++ B) ++ C) D (E ++ end_lines)
     ∙ append_assoc (A ++ B) C (D ++ (E ++ end_lines))
@@ -67,7 +66,7 @@ parts_text : (a : AnswerParts) →
     ++ (with_ends (floor_line a.floor ∷ [])
     ++ (with_ends (rows_lines a.rows)
     ++ (with_ends (tree_lines (codes "proof") a.proof)
-    ++ (with_ends (tree_lines (codes "open") a.unfinished) ++ with_ends end_lines)))))
+    ++ (with_ends (tree_lines (codes "open") a.undecided) ++ with_ends end_lines)))))
 parts_text a =
     let H : List ℕ = with_ends (head_lines a.verdict) in
     let C : List ℕ = with_ends (costs_lines a.costs) in
@@ -80,25 +79,25 @@ parts_text a =
     ∙ ap (λ t. H ++ (C ++ t)) (with_ends-append (floor_line a.floor ∷ []) (after_floor a))
     ∙ ap (λ t. H ++ (C ++ (F ++ t))) (with_ends-append (rows_lines a.rows) (after_rows a))
     ∙ ap (λ t. H ++ (C ++ (F ++ (R ++ t)))) (with_ends-append (tree_lines (codes "proof") a.proof) (after_proof a))
-    ∙ ap (λ t. H ++ (C ++ (F ++ (R ++ (P ++ t))))) (with_ends-append (tree_lines (codes "open") a.unfinished) end_lines)
+    ∙ ap (λ t. H ++ (C ++ (F ++ (R ++ (P ++ t))))) (with_ends-append (tree_lines (codes "open") a.undecided) end_lines)
 
 -- the same, with the parts as a caller holds them
-pub text-parts : (a answer : AnswerParts) (costs : Option Costs) (rows : List Row) (proof unfinished : Option CapTree) →
-    a ≡ answer → costs ≡ a.costs → rows ≡ a.rows → proof ≡ a.proof → unfinished ≡ a.unfinished →
+pub text-parts : (a answer : AnswerParts) (costs : Option Costs) (rows : List Row) (proof undecided : Option CapTree) →
+    a ≡ answer → costs ≡ a.costs → rows ≡ a.rows → proof ≡ a.proof → undecided ≡ a.undecided →
     text answer ≡ with_ends (head_lines a.verdict)
     ++ (with_ends (costs_lines costs)
     ++ (with_ends (floor_line a.floor ∷ [])
     ++ (with_ends (rows_lines rows)
     ++ (with_ends (tree_lines (codes "proof") proof)
-    ++ (with_ends (tree_lines (codes "open") unfinished) ++ with_ends end_lines)))))
-text-parts a answer costs rows proof unfinished same e f g h =
+    ++ (with_ends (tree_lines (codes "open") undecided) ++ with_ends end_lines)))))
+text-parts a answer costs rows proof undecided same e f g h =
     let part_costs = ap (λ (x : Option Costs). record {
       verdict = a.verdict;
       costs = x;
       floor = a.floor;
       rows = rows;
       proof = proof;
-      unfinished = unfinished;
+      undecided = undecided;
     }) e in
     let part_rows = ap (λ (x : List Row). record {
       verdict = a.verdict;
@@ -106,7 +105,7 @@ text-parts a answer costs rows proof unfinished same e f g h =
       floor = a.floor;
       rows = x;
       proof = proof;
-      unfinished = unfinished;
+      undecided = undecided;
     }) f in
     let part_proof = ap (λ (x : Option CapTree). record {
       verdict = a.verdict;
@@ -114,18 +113,18 @@ text-parts a answer costs rows proof unfinished same e f g h =
       floor = a.floor;
       rows = a.rows;
       proof = x;
-      unfinished = unfinished;
+      undecided = undecided;
     }) g in
-    let part_unfinished = ap (λ (x : Option CapTree). record {
+    let part_undecided = ap (λ (x : Option CapTree). record {
       verdict = a.verdict;
       costs = a.costs;
       floor = a.floor;
       rows = a.rows;
       proof = a.proof;
-      unfinished = x;
+      undecided = x;
     }) h in
-    let held : AnswerParts = record { verdict = a.verdict; costs = costs; floor = a.floor; rows = rows; proof = proof; unfinished = unfinished } in
-    let is : held ≡ a = part_costs ∙ part_rows ∙ part_proof ∙ part_unfinished in
+    let held : AnswerParts = record { verdict = a.verdict; costs = costs; floor = a.floor; rows = rows; proof = proof; undecided = undecided } in
+    let is : held ≡ a = part_costs ∙ part_rows ∙ part_proof ∙ part_undecided in
     ap text (sym same ∙ sym is) ∙ parts_text held
 
 -- each part of an answer has short lines
@@ -135,7 +134,7 @@ pub record AreShortParts (a : AnswerParts) : Type 0 where
   pub floor : AreShort (floor_line a.floor ∷ [])
   pub rows : AreShort (rows_lines a.rows)
   pub proof : AreShort (tree_lines (codes "proof") a.proof)
-  pub unfinished : AreShort (tree_lines (codes "open") a.unfinished)
+  pub undecided : AreShort (tree_lines (codes "open") a.undecided)
   pub end : AreShort end_lines
 
 pub short_parts : (a : AnswerParts) → AreShort (answer_lines a) → AreShortParts a
@@ -152,6 +151,6 @@ short_parts a short =
       floor = short_front (floor_line a.floor ∷ []) (after_floor a) behind_costs;
       rows = short_front (rows_lines a.rows) (after_rows a) behind_floor;
       proof = short_front (tree_lines (codes "proof") a.proof) (after_proof a) behind_rows;
-      unfinished = short_front (tree_lines (codes "open") a.unfinished) end_lines behind_proof;
-      end = short_rest (tree_lines (codes "open") a.unfinished) end_lines behind_proof;
+      undecided = short_front (tree_lines (codes "open") a.undecided) end_lines behind_proof;
+      end = short_rest (tree_lines (codes "open") a.undecided) end_lines behind_proof;
     }

@@ -9,9 +9,9 @@ use Rattle.cost_base.proofs.PutPieces.{whole_part, part_more}
 use Rattle.design_problem.specs.declared.answer.CostLine.{CostLine}
 use Rattle.design_problem.specs.declared.answer.CapTree.{CapTree}
 use Rattle.design_problem.specs.declared.tree.Entry.{Entry}
-use Rattle.design_problem.specs.Text.{router_lines, cost_lines, tree_lines, entry_line}
+use Rattle.design_problem.specs.Text.{router_lines, cost_lines, tree_lines, entry_line, interface_lines}
 use Rattle.evidence_text.specs.declared.TreePart.{TreePart}
-use Rattle.evidence_text.specs.Parts.{interface_lines, tree_line, part_word}
+use Rattle.evidence_text.specs.Parts.{tree_line, part_word}
 use Rattle.text_lines.specs.Lines.{with_ends}
 use Rattle.evidence_text.specs.Lines.{AreShort, IsPieceHanded}
 use Rattle.text_lines.proofs.LineLaws.{with_ends-append}

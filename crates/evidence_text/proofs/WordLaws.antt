@@ -1,23 +1,10 @@
--- Lines as words with one space between each two.
-use Rattle.std.proofs.Common.{◌≡◌, ℕ, ◌+◌, ◌<◌, ◌≤◌, List, [], ◌∷◌, ◌++◌, length, map, get_or, drop, refl, sym, ap, ◌∙◌, append_assoc, length-append, arith}
+-- Lines to which words are added.
+use Rattle.std.proofs.Common.{◌≡◌, ℕ, ◌+◌, ◌<◌, ◌≤◌, List, [], ◌∷◌, ◌++◌, length, map, get_or, drop, refl, ap, ◌∙◌, length-append, arith}
 use Rattle.std.proofs.lemmas.List.{at_drop_more}
 use Rattle.cost_base.specs.Decimal.{decimal}
 use Rattle.design_problem.specs.declared.tree.Member.{Member}
-use Rattle.design_problem.specs.Text.{spaced, member_words, members_words, part_words}
-use Rattle.evidence_text.specs.Lines.{with_words}
-
--- what stands before a line stays before its longer form
-pub with_words-front : (a b : List ℕ) (words : List (List ℕ)) → with_words (a ++ b) words ≡ a ++ with_words b words
-with_words-front a b [] = refl
-with_words-front a b (word ∷ words) = ap (λ line. with_words line words) (append_assoc a b (32 ∷ word)) ∙ with_words-front a (b ++ 32 ∷ word) words
-
--- spaced words are the first one with the others behind it
-pub spaced-with : (word : List ℕ) (words : List (List ℕ)) → spaced (word ∷ words) ≡ with_words word words
-spaced-with word [] = refl
-spaced-with word (next ∷ words) =
-    ap (λ line. word ++ 32 ∷ line) (spaced-with next words)
-    ∙ ap (λ line. word ++ line) (sym (with_words-front (32 ∷ []) next words))
-    ∙ sym (with_words-front word (32 ∷ next) words)
+use Rattle.design_problem.specs.Text.{member_words, members_words, multiplier_words}
+use Rattle.line_builder.specs.Words.{with_words}
 
 -- words in two groups
 pub with_words-append : (line : List ℕ) (xs ys : List (List ℕ)) → with_words line (xs ++ ys) ≡ with_words (with_words line xs) ys
@@ -49,7 +36,7 @@ members_turn line members i d h =
 
 -- one more row with its multiplier
 pub parts_turn : (line : List ℕ) (parts : List (ℕ × ℕ)) (i : ℕ) (d : ℕ × ℕ) → i < length parts →
-    with_words line (part_words (drop i parts))
+    with_words line (multiplier_words (drop i parts))
     ≡ with_words ((line ++ 32 ∷ decimal (get_or parts i d).0) ++ 32 ∷ decimal (get_or parts i d).1)
-    (part_words (drop (i + 1) parts))
-parts_turn line parts i d h = at_drop_more (λ rest. with_words line (part_words rest)) parts i d h
+    (multiplier_words (drop (i + 1) parts))
+parts_turn line parts i d h = at_drop_more (λ rest. with_words line (multiplier_words rest)) parts i d h

@@ -1,15 +1,10 @@
 -- Texts of lines, and what putting them does to a sink.
-use Rattle.std.specs.Prelude.{ℕ, ◌≤◌, List, [], ◌∷◌, ◌++◌, length, All, Option, Result, OnOk, OnErr}
+use Rattle.std.specs.Prelude.{ℕ, ◌≤◌, List, length, All, Option, Result, OnOk, OnErr}
 use Rattle.cost_base.specs.Outside.{GotAll, GotPart, HasCause}
 
 -- no line passes 65,536 bytes
 abbrev pub AreShort : List (List ℕ) → Type 0
 AreShort lines = All (λ line. length line ≤ 65536) lines
-
--- a line with more words behind it, each after one space
-abbrev pub with_words : List ℕ → List (List ℕ) → List ℕ
-with_words line [] = line
-with_words line (word ∷ words) = with_words (line ++ 32 ∷ word) words
 
 -- the sink got the whole piece or, where the call was refused, a part of it, and the refusal has its cause in the sink
 pub record IsPieceHanded {T E : Type 0} (before now : Option (List ℕ)) (faults_before faults_now : ℕ) (piece : List ℕ) (result : Result T E) : Type 0 where

@@ -4,11 +4,13 @@
 //! This code is for the prover alone: contracts know the range of a number's type only once the code reads the number,
 //! so each function reads those of its argument. None writes anything.
 ghost use Rattle.std.specs.Prelude.{ℕ, List, All, Some, length};
-ghost use Rattle.design_problem.specs.Bounds.{BoundsCosts, BoundsEntry, BoundsFloor, BoundsMember, BoundsParts, BoundsRow, BoundsTree, BoundsVerdict, IsCost};
-ghost use Rattle.design_problem.specs.Bounds.{IsRowNumber, IsIndex};
+ghost use Rattle.design_problem.specs.AnswerRanges.{BoundsCosts, BoundsEntry, BoundsFloor, BoundsMember, BoundsParts, BoundsRow, BoundsTree, BoundsVerdict, IsCost};
+ghost use Rattle.design_problem.specs.AnswerRanges.{IsRowNumber, IsIndex};
 ghost use Rattle.evidence_text.specs.AnswerValues.{IsAnswerValue};
 
-use design_problem::{Answer, CapTree, CostLine, Costs, Entry, Floor, Member, Parts, Row, Verdict};
+use design_problem::{
+    Answer, CapTree, CostLine, Costs, Entry, Floor, Member, Multipliers, Row, Verdict,
+};
 
 /// Keeps that the number of a variable, a request or an edge has 32 bits: a number that is passed is in
 /// its type's range.
@@ -134,7 +136,7 @@ fn keeps_row_numbers(parts: &[(u64, u128)])
 }
 
 /// Keeps that the rows of a Refute rise, by its type, and the ranges of their numbers.
-fn keeps_parts(parts: &Parts)
+fn keeps_parts(parts: &Multipliers)
     ensures { BoundsParts parts.now }
 {
     keeps_row_numbers(parts.as_slice());
@@ -191,8 +193,8 @@ fn keeps_tree(tree: &Option<CapTree>)
     }
 }
 
-/// An answer is a value of its type: its numbers are within their bounds, its trees are whole, its text is
-/// in the grammar.
+/// For the prover alone: keeps that an answer is a value of its type: its numbers are within their bounds, its trees
+/// are whole, its text is in the grammar. It changes nothing.
 pub fn keeps_answer(answer: &Answer)
     ensures { IsAnswerValue answer.now }
 {
@@ -202,5 +204,5 @@ pub fn keeps_answer(answer: &Answer)
     keeps_rows(answer.rows.as_slice());
     keeps_count(answer.rows.as_slice());
     keeps_tree(&answer.proof);
-    keeps_tree(&answer.unfinished);
+    keeps_tree(&answer.undecided);
 }

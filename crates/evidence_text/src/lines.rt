@@ -1,9 +1,9 @@
 //! The lines of an answer, each written into a buffer.
 ghost use Rattle.std.specs.Prelude.{◌≡◌, ℕ, ◌+◌, ◌≤◌, List, [], ◌∷◌, ◌++◌, length, map, codes};
 ghost use Rattle.cost_base.specs.Decimal.{decimal};
-ghost use Rattle.design_problem.specs.Text.{row_line, entry_line, side_word, step_word, ratio_word, member_words, members_words, part_words};
-ghost use Rattle.evidence_text.specs.Lines.{with_words};
-ghost use Rattle.evidence_text.specs.Parts.{verdict_line, costs_line, interface_line, answer_cost_line, floor_line, rows_line, part_word, no_tree_line, tree_line};
+ghost use Rattle.design_problem.specs.Text.{row_line, entry_line, side_word, step_word, ratio_word, member_words, members_words, multiplier_words, verdict_line, costs_line, interface_line, answer_cost_line, floor_line, rows_line};
+ghost use Rattle.line_builder.specs.Words.{with_words};
+ghost use Rattle.evidence_text.specs.Parts.{part_word, no_tree_line, tree_line};
 
 use crate::TreePart;
 use crate::line_buffer::LineBuffer;
@@ -136,7 +136,7 @@ pub fn no_tree_line(part: TreePart) -> &'static [u8]
 {
     match part {
         TreePart::Proof => b"proof none",
-        TreePart::Unfinished => b"open none",
+        TreePart::Undecided => b"open none",
     }
 }
 
@@ -147,7 +147,7 @@ pub fn part_word(part: TreePart) -> &'static [u8]
 {
     match part {
         TreePart::Proof => b"proof",
-        TreePart::Unfinished => b"open",
+        TreePart::Undecided => b"open",
     }
 }
 
@@ -287,8 +287,8 @@ fn write_refute(parts: &[(u64, u128)], line: &mut LineBuffer)
 }
 
 fn push_parts(parts: &[(u64, u128)], line: &mut LineBuffer)
-    requires { length (with_words line.old (part_words parts.now)) ≤ 65536 }
-    ensures { line.new ≡ with_words line.old (part_words parts.now) }
+    requires { length (with_words line.old (multiplier_words parts.now)) ≤ 65536 }
+    ensures { line.new ≡ with_words line.old (multiplier_words parts.now) }
 {
     for part in parts {
         line.push_number(u128::from(part.0));

@@ -1,9 +1,9 @@
 //! A sink that keeps what it gets, so that a text is made whole before any of it is put.
-ghost use Rattle.std.specs.Prelude.{◌≡◌, Some};
+ghost use Rattle.std.specs.Prelude.{◌≡◌, Some, IsOk, IfOk, OnOk};
 ghost use Rattle.cost_base.specs.Outside.{GotAll};
 ghost use Rattle.cost_base.specs.HistoryLaws.{handed_none, handed_more};
 
-use cost_base::{PutFailed, Sink};
+use cost_base::{OutOfMemory, PutFailed, Sink};
 
 /// The bytes that were put. A growth that is refused is a fault, and the only one.
 #[derive(Drop)]
@@ -44,5 +44,16 @@ impl TextBuffer {
         ensures { result.bytes ≡ bytes }
     {
         TextBuffer { bytes, faults: 0 }
+    }
+
+    /// The bytes, of which the last ones were put, unless a growth was refused.
+    pub(crate) fn whole(self, put: Result<(), PutFailed>) -> Result<Vec<u8>, OutOfMemory>
+        ensures put { OnOk result (IsOk put) }
+        ensures bytes { IfOk result (λ bytes. bytes ≡ self.bytes) }
+    {
+        match put {
+            Ok(()) => Ok(self.bytes),
+            Err(PutFailed) => Err(OutOfMemory),
+        }
     }
 }

@@ -11,9 +11,9 @@ use Rattle.wide_fraction.specs.declared.steps.Wide.{Wide}
 use Rattle.fraction_table.specs.declared.stage.Stage.{Stage}
 use Rattle.fraction_table.specs.declared.stage.Stage.TheVariants.{Ended, Open, Stopped}
 use Rattle.fraction_table.specs.declared.stage.Solved.{Solved}
-use Rattle.fraction_rows.proofs.RowLaws.{number_at as number_there}
+use Rattle.fraction_lines.proofs.TableLineLaws.{number_at as number_there}
 use Rattle.design_problem.specs.declared.form.Form.{Form}
-use Rattle.design_problem.specs.declared.form.CostBox.{CostBox}
+use Rattle.design_problem.specs.declared.boxes.CostBox.{CostBox}
 use Rattle.design_problem.specs.declared.tree.Member.{Member}
 use Rattle.fraction_table.specs.declared.table.Table.{Table}
 use Rattle.design_problem.specs.Basis.{entry, member_form}
@@ -47,13 +47,13 @@ clash h = cc
 pub started : (b : Bool) (k : Kernel) → IsSound k.table Open → (b ≡ true → IsKernel k) → IsParked k →
     IsSoundActive (record { kernel = k; in_kernel = b }) Open
 started true k s kernel parked = record {
-  active = λ going. record { whole = (kernel refl).whole; kernel = λ is. kernel refl; parked = parked; room = s.room };
+  active = λ going. record { tableau = (kernel refl).tableau; kernel = λ is. kernel refl; parked = parked; room = s.room };
   shown = tt;
   basis = s.basis;
   room = s.room;
 }
 started false k s kernel parked = record {
-  active = λ going. record { whole = s.whole going; kernel = λ is. absurd (clash is); parked = parked; room = s.room };
+  active = λ going. record { tableau = s.tableau going; kernel = λ is. absurd (clash is); parked = parked; room = s.room };
   shown = tt;
   basis = s.basis;
   room = s.room;
@@ -93,7 +93,7 @@ whole_beside false k out w = w
 pub cannot_return : (a : ActiveTable) (stage : Stage) → IsActive a → (a.in_kernel ≡ false → MayReturn a.kernel.table → ⊥) →
     a.in_kernel ≡ false → CannotReturn (held_by (state_of a stage))
 cannot_return a stage active back is_out =
-    record { table = a.kernel.table; whole = whole_beside a.in_kernel a.kernel is_out active.whole; holds = refl; beyond = back is_out }
+    record { table = a.kernel.table; tableau = whole_beside a.in_kernel a.kernel is_out active.tableau; holds = refl; beyond = back is_out }
 
 -- the same where an answer was found
 pub cannot_return_then : (settled : Result Solved Wide) (a : ActiveTable) (stage : Stage) → OnOk settled (IsActive a) →
@@ -113,7 +113,7 @@ kernel_shown false k solved is kernel shown = absurd (clash is)
 pub kernel_high : (b : Bool) (k : Kernel) → b ≡ true → IsKernel k → AreHigh (table_in b k) → All (λ z. pos 0 ≤ℤ z) k.constants.items
 kernel_high true k is kernel high place d place_in =
     let t = stated k in
-    let w = kernel.whole in
+    let w = kernel.tableau in
     let line_in : place < length t.lines.items = omega (arith, stated_many k kernel, place_in) in
     let l = whole_line t w place line_in in
     let first = number_there t.top (line_at t place) 0 l.numbers (omega (arith, line_long t w place line_in)) in
@@ -141,12 +141,12 @@ active_basis false k w = whole_basis k.table.top k.table.costs k.table.rows.item
 
 pub opened : (a : ActiveTable) → IsActive a → IsSoundActive a Open
 opened a active =
-    record { active = λ going. active; shown = tt; basis = active_basis a.in_kernel a.kernel active.whole; room = active.room }
+    record { active = λ going. active; shown = tt; basis = active_basis a.in_kernel a.kernel active.tableau; room = active.room }
 
 pub ended : (a : ActiveTable) (solved : Solved) → IsActive a →
     IsShown a.kernel.table.basis.items (table_of a).lines.items (Ended solved) → IsSoundActive a (Ended solved)
 ended a solved active shown =
-    record { active = λ going. active; shown = shown; basis = active_basis a.in_kernel a.kernel active.whole; room = active.room }
+    record { active = λ going. active; shown = shown; basis = active_basis a.in_kernel a.kernel active.tableau; room = active.room }
 
 pub stopped : (a : ActiveTable) (wide : Wide) →
     IsStepTooWide a.kernel.table.top a.kernel.table.costs a.kernel.table.rows.items
@@ -184,7 +184,7 @@ pub room_made : (b : Bool) (old new : Kernel) → HoldsSame old.table new.table 
 room_made true old new t k parks stage s =
     record {
       active = λ going. (let a = s.active going in let kernel = kernel_same old new t k (a.kernel refl) in
-          record { whole = kernel.whole; kernel = λ is. kernel; parked = parks a.parked; room = room_same old.table new.table t s.room });
+          record { tableau = kernel.tableau; kernel = λ is. kernel; parked = parks a.parked; room = room_same old.table new.table t s.room });
       shown = shown_held old new t k stage (λ going. (s.active going).kernel refl) s.shown;
       basis = rw (t.costs, t.rows, t.basis) s.basis;
       room = room_same old.table new.table t s.room;
@@ -193,7 +193,7 @@ room_made false old new t k parks stage s =
     record {
       active = λ going. (let a = s.active going in
           record {
-            whole = whole_same old.table new.table t a.whole;
+            tableau = whole_same old.table new.table t a.tableau;
             kernel = λ is. absurd (clash is);
             parked = parks a.parked;
             room = room_same old.table new.table t s.room;
@@ -220,7 +220,7 @@ pub settled_rightly : (old : Table) (a : ActiveTable) (found : Result Solved Wid
     (λ solved. IsShown a.kernel.table.basis.items (table_of a).lines.items (Ended solved)) →
     IfOk found (λ solved. IsSolved old.costs old.rows.items solved)
 settled_rightly old a (Ok solved) keeps active shown =
-    settled_solves old (table_of a) (Ok solved) (forms_in a.in_kernel a.kernel old keeps) active.whole (shown_in a.in_kernel a.kernel solved shown)
+    settled_solves old (table_of a) (Ok solved) (forms_in a.in_kernel a.kernel old keeps) active.tableau (shown_in a.in_kernel a.kernel solved shown)
 settled_rightly old a (Err wide) keeps active shown = tt
 
 pub settled_among_forms : (old : Table) (a : ActiveTable) (found : Result Solved Wide) → KeepsBoxAndRows old a.kernel.table →
@@ -228,5 +228,5 @@ pub settled_among_forms : (old : Table) (a : ActiveTable) (found : Result Solved
     (λ solved. IsShown a.kernel.table.basis.items (table_of a).lines.items (Ended solved)) →
     IfOk found (IsAmongForms old.costs old.rows.items)
 settled_among_forms old a (Ok solved) keeps active shown =
-    settled_among old (table_of a) (Ok solved) (forms_in a.in_kernel a.kernel old keeps) active.whole (shown_in a.in_kernel a.kernel solved shown)
+    settled_among old (table_of a) (Ok solved) (forms_in a.in_kernel a.kernel old keeps) active.tableau (shown_in a.in_kernel a.kernel solved shown)
 settled_among_forms old a (Err wide) keeps active shown = tt

@@ -5,7 +5,7 @@ use Rattle.std.specs.Prelude.{Result, OnOk, vec_capacity}
 use Rattle.std.specs.Result.{is_ok}
 use Rattle.std.proofs.lemmas.List.{get_or_default}
 use Rattle.whole_numbers.specs.Fractions.{Fraction}
-use Rattle.design_problem.specs.declared.form.CostBox.{CostBox}
+use Rattle.design_problem.specs.declared.boxes.CostBox.{CostBox}
 use Rattle.design_problem.specs.declared.form.Form.{Form}
 use Rattle.design_problem.specs.Boxes.{IsBox}
 use Rattle.fraction_table.specs.declared.stage.Stage.TheVariants.{Open}
@@ -59,7 +59,7 @@ beside : (b : Bool) (k : Kernel) (t : Table) → b ≡ false → IsParked k → 
     t.rows.items ≡ k.table.rows.items → IsActive (record { kernel = record k { table = t }; in_kernel = b })
 beside true k t out p w room width rows = absurd (clash (sym out))
 beside false k t out p w room width rows =
-    record { whole = w; kernel = λ is. absurd (clash is); parked = parked_with k t p w room width rows; room = room }
+    record { tableau = w; kernel = λ is. absurd (clash is); parked = parked_with k t p w room width rows; room = room }
 
 -- a table that moved has the new box and the old rows
 rebased_keeps : (old new : Held) (costs : CostBox) → IsRebased old costs new → (new.costs ≡ costs) × (new.rows ≡ old.rows)
@@ -87,11 +87,11 @@ pub read_back_or_beside : (b : Bool) (a : ActiveTable) (k : Kernel) (found : Res
     IsActive (record { kernel = k; in_kernel = b })
 read_back_or_beside b a k (Ok done) is out active same parked kernel =
     subst (λ (inside : Bool). IsActive (record { kernel = k; in_kernel = inside })) (sym is)
-    (record { whole = kernel.whole; kernel = λ there. kernel; parked = parked; room = parked.shaped.room })
+    (record { tableau = kernel.tableau; kernel = λ there. kernel; parked = parked; room = parked.shaped.room })
 read_back_or_beside b a k (Err refused) is out active same parked kernel =
     subst (λ (inside : Bool). IsActive (record { kernel = k; in_kernel = inside })) (sym is)
     (record {
-      whole = subst IsTableau (sym same) (whole_beside a.in_kernel a.kernel out active.whole);
+      tableau = subst IsTableau (sym same) (whole_beside a.in_kernel a.kernel out active.tableau);
       kernel = λ there. absurd (clash there);
       parked = parked;
       room = parked.shaped.room;

@@ -1,7 +1,7 @@
 -- The table that a tableau works on, what it keeps, and when the kernel of whole numbers works.
 use Rattle.std.specs.Prelude.{◌≡◌, ℕ, ◌^◌, ◌≤◌, List, Bool, true, false}
 use Rattle.design_problem.specs.declared.form.Form.{Form}
-use Rattle.design_problem.specs.declared.form.CostBox.{CostBox}
+use Rattle.design_problem.specs.declared.boxes.CostBox.{CostBox}
 use Rattle.design_problem.specs.declared.tree.Member.{Member}
 use Rattle.design_problem.specs.Basis.{IsBasis}
 use Rattle.fraction_table.specs.declared.stage.Stage.{Stage}
@@ -27,7 +27,7 @@ table_of a = table_in a.in_kernel a.kernel
 -- The lines that are worked on are the table of the box and the rows at the basis. Where the kernel of whole numbers
 -- works, its numbers are those of such a table; and at all times its lists and leads are fit for going back to it.
 pub record IsActive (a : ActiveTable) : Type 0 where
-  pub whole : IsTableau (table_of a)
+  pub tableau : IsTableau (table_of a)
   pub kernel : a.in_kernel ≡ true → IsKernel a.kernel
   pub parked : IsParked a.kernel
   pub room : HasRoom a.kernel.table
@@ -80,12 +80,12 @@ pub record MayReturn (t : Table) : Type 0 where
 -- a table in fractions of what is held, on which the kernel may not work
 pub record CannotReturn (h : Held) : Type 0 where
   pub table : Table
-  pub whole : IsTableau table
+  pub tableau : IsTableau table
   pub holds : held_of table h.stage ≡ h
   pub beyond : MayReturn table → ⊥
 
 -- Until a step stops it, a tableau's lines are the table of its box and rows at its basis; they show what it found. At
--- all times its basis is one of the box and the rows, and its two work rows are as wide as the lines.
+-- all times its basis is one of the box and the rows, and its two work lines are as wide as the others.
 pub record IsSoundActive (a : ActiveTable) (stage : Stage) : Type 0 where
   pub active : IsGoing stage → IsActive a
   pub shown : IsShown a.kernel.table.basis.items (table_of a).lines.items stage

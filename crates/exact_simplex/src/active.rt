@@ -3,9 +3,9 @@
 ghost use Rattle.std.specs.Prelude.{◌≡◌, suc, ◌^◌, ◌<◌, ◌≤◌, ◌↔◌, ◌++◌, [], ◌∷◌, length, true, false, All, IfErr, IfOk, IsTrue, OnErr, OnOk};
 ghost use Rattle.design_problem.specs.Boxes.{IsBox, Refutes};
 ghost use Rattle.design_problem.specs.Earnest.{IsLeastPoint};
-ghost use Rattle.design_problem.specs.Steps.{IsStuck, IsStepTooWide};
+ghost use Rattle.design_problem.specs.Steps.{IsRefutingForm, IsStepTooWide};
 ghost use Rattle.design_problem.specs.Forms.{AreMet};
-ghost use Rattle.fraction_rows.specs.TableRows.{blank_row};
+ghost use Rattle.fraction_lines.specs.TableLines.{blank_line};
 ghost use Rattle.fraction_table.specs.declared.stage.Stage.{Stage};
 ghost use Rattle.fraction_table.specs.declared.stage.Stage.TheVariants.{Ended, Open};
 ghost use Rattle.fraction_table.specs.Multipliers.{IsWideAtBasis};
@@ -19,8 +19,8 @@ ghost use Rattle.exact_simplex.specs.Actives.{IsActive, IsSoundActive, MayReturn
 
 use area_graph::Point;
 use cost_base::OutOfMemory;
-use design_problem::{CostBox, Form, Parts};
-use fraction_table::{BlankRow, SimplexStop, Solved};
+use design_problem::{CostBox, Form, Multipliers};
+use fraction_table::{BlankLine, SimplexStop, Solved};
 use std::alloc::Global;
 use table_kernel::{Kernel, starting_kernel};
 use wide_fraction::{Top, Wide};
@@ -72,7 +72,7 @@ impl ActiveTable {
     /// # Errors
     ///
     /// `OutOfMemory` where something got no memory. Then the table holds what it held.
-    pub fn make_room(&mut self, alloc: Global, form: &Form) -> Result<BlankRow, OutOfMemory>
+    pub fn make_room(&mut self, alloc: Global, form: &Form) -> Result<BlankLine, OutOfMemory>
         // The table has room for pivots.
         requires room { HasRoom self.old.kernel.table }
 
@@ -86,7 +86,7 @@ impl ActiveTable {
         ensures place { OnOk result (HasRowPlace self.new.kernel) }
         ensures form { IfOk result (λ row. row.form ≡ form.now) }
         ensures blank { IfOk result
-            (λ row. row.line ≡ blank_row (length self.old.kernel.table.costs.low)) }
+            (λ row. row.line ≡ blank_line (length self.old.kernel.table.costs.low)) }
     {
         self.kernel.make_room(alloc, form)
     }
@@ -137,7 +137,7 @@ impl ActiveTable {
     /// # Errors
     ///
     /// `Wide` where a step of the row's line makes a whole number that passes the top. The row was added nevertheless.
-    pub fn put_row(&mut self, row: BlankRow) -> Result<(), Wide>
+    pub fn put_row(&mut self, row: BlankLine) -> Result<(), Wide>
         // The lines are the table at the basis; there is a place for the row, which fits the box, with a line of zeros.
         requires active { IsActive self.old }
         requires row { MayAddRow self.old.kernel row }
@@ -307,16 +307,16 @@ impl ActiveTable {
         self.kernel.table.put_corner(into)
     }
 
-    /// Whole multipliers of rows that refute the box, by a line that is stuck.
+    /// Whole multipliers of rows that refute the box, by a refuting form.
     ///
     /// # Errors
     ///
     /// `TooWide` where a step makes a whole number that passes the top; `OutOfMemory`.
-    pub fn multipliers(&self, alloc: Global, line: usize) -> Result<Parts, SimplexStop>
+    pub fn multipliers(&self, alloc: Global, line: usize) -> Result<Multipliers, SimplexStop>
         // The line is one of the table, and its form can't be made non-negative.
         requires active { IsActive self.now }
         requires line { line < length (table_of self.now).lines.items }
-        requires stuck { IsStuck self.now.kernel.table.basis.items
+        requires refuting { IsRefutingForm self.now.kernel.table.basis.items
             (line_at (table_of self.now) line) }
 
         // On Ok the multipliers refute the box, with at most one row more than there are variables.

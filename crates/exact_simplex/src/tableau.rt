@@ -14,7 +14,7 @@ ghost use Rattle.exact_simplex.specs.Actives.{CannotReturn, CouldNotMove, WasHel
 use crate::active::ActiveTable;
 use area_graph::Point;
 use cost_base::OutOfMemory;
-use design_problem::{CostBox, Form, Member, Parts};
+use design_problem::{CostBox, Form, Member, Multipliers};
 use fraction_table::{SimplexStop, Solved, Stage, fit_box, fits_box, is_box};
 use std::alloc::Global;
 use std::marker::Model;
@@ -227,7 +227,12 @@ impl Tableau {
     /// # Errors
     ///
     /// `TooWide` where a step makes a whole number that passes the top; `OutOfMemory`. After both `into` is as before.
-    pub fn multipliers(&self, alloc: Global, form: u64, into: &mut Parts) -> Result<(), SimplexStop>
+    pub fn multipliers(
+        &self,
+        alloc: Global,
+        form: u64,
+        into: &mut Multipliers,
+    ) -> Result<(), SimplexStop>
         requires solved { self.now.stage ≡ Ended (Refuted form) }
         ensures refutes { OnOk result (Refutes self.now.rows into.new self.now.costs) }
         ensures few { OnOk result (length into.new ≤ suc (length self.now.costs.low)) }

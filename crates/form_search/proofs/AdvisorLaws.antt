@@ -4,7 +4,7 @@ use Rattle.std.specs.Prelude.{slice_get}
 use Rattle.std.specs.List.Sorted.{IsPermutation}
 use Rattle.cost_base.specs.declared.OutOfMemory.{OutOfMemory}
 use Rattle.area_graph.specs.declared.Point.{Point}
-use Rattle.design_problem.specs.declared.form.CostBox.{CostBox}
+use Rattle.design_problem.specs.declared.boxes.CostBox.{CostBox}
 use Rattle.design_problem.specs.declared.tree.Entry.{Entry}
 use Rattle.design_problem.specs.declared.tree.Entry.TheVariants.{Tighten, Split, Halve, Refute, Undone}
 use Rattle.design_problem.specs.declared.tree.WideAt.{WideAt}
@@ -16,13 +16,13 @@ use Rattle.design_problem.specs.OpenPlaces.{Growing, first_place, fresh, grown, 
 use Rattle.cut_advisors.specs.declared.candidate.Candidate.{Candidate}
 use Rattle.form_search.specs.declared.found.Found.{Found}
 use Rattle.form_search.specs.declared.found.Found.TheVariants.{Costs as FoundCosts, Undecided}
-use Rattle.form_search.specs.declared.next_entry.Next.{Next}
-use Rattle.form_search.specs.declared.next_entry.Next.TheVariants.{Forms, Costs, Entry as ByEntry}
+use Rattle.form_search.specs.declared.desk.Next.{Next}
+use Rattle.form_search.specs.declared.desk.Next.TheVariants.{Forms, Costs, Entry as ByEntry}
 use Rattle.form_search.specs.Points.{AreCostsThere, candidates_at}
-use Rattle.form_search.specs.Turns.{IsNextRow, IsNextStep, IsUnsplit, turned}
-use Rattle.form_search.specs.Advised.{AreAdvisorsLeft, AreAskedFor, AreCalledAlong, AreAllTold, AreCalledBySearch, AreReadyFor, IsAskedNext, IsAt, IsPick, IsSearched, IsToldNext, IsToldOf, IsTreeOf}
-use Rattle.form_search.specs.Advised.AreAdvisorsLeft.{none, more}
-use Rattle.form_search.specs.Advised.AreCalledAlong.{begun, longer}
+use Rattle.form_search.specs.NextEntries.{IsNextRow, IsNextStep, IsUnsplit, after_round}
+use Rattle.form_search.specs.AdvisorsAsked.{AreAdvisorsLeft, AreAskedFor, AreCalledAlong, AreAllTold, AreCalledBySearch, AreReadyFor, IsAskedNext, IsAt, IsPick, IsSearched, IsToldNext, IsToldOf, IsTreeOf}
+use Rattle.form_search.specs.AdvisorsAsked.AreAdvisorsLeft.{none, more}
+use Rattle.form_search.specs.AdvisorsAsked.AreCalledAlong.{begun, longer}
 
 -- without a search each advisor stands as it did
 pub left_alike : {A : Type 0} (Search : List A → List A → Type 0) (xs ys : List A) → ys ≡ xs → AreAdvisorsLeft Search xs ys
@@ -33,7 +33,8 @@ pub left_searched : {A : Type 0} (Search : List A → List A → Type 0) (xs ys 
 left_searched Search xs ys searched = more xs xs ys (none xs) searched
 
 -- searches, and then searches
-pub left_then : {A : Type 0} (Search : List A → List A → Type 0) (xs ys zs : List A) → AreAdvisorsLeft Search xs ys → AreAdvisorsLeft Search ys zs → AreAdvisorsLeft Search xs zs
+pub left_then : {A : Type 0} (Search : List A → List A → Type 0) (xs ys zs : List A) → AreAdvisorsLeft Search xs ys → AreAdvisorsLeft Search ys zs →
+    AreAdvisorsLeft Search xs zs
 left_then Search xs ys zs first (none u) = first
 left_then Search xs ys zs first (more u v w rest last) = more xs v w (left_then Search xs u v first rest) last
 
@@ -58,12 +59,12 @@ pub asked_there : {A : Type 0} (IsHere IsThere : CostBox → Point → Type 0) (
 asked_there IsHere IsThere Picks box var value old new there asked = record {
   point = asked.point;
   here = there box asked.point asked.here;
-  choices = asked.choices;
+  candidates = asked.candidates;
   all = asked.all;
   position = asked.position;
   picked = asked.picked;
-  choice = asked.choice;
-  is_choice = asked.is_choice;
+  candidate = asked.candidate;
+  is_candidate = asked.is_candidate;
   same_var = asked.same_var;
   same_value = asked.same_value;
 }
@@ -102,21 +103,21 @@ calls_there IsHere IsThere Picks Tells box tree old new there calls = record {
 
 -- the Split at the choice that was picked
 pub asked_split : {A : Type 0} (Picks : List Candidate → ℕ → List A → List A → Type 0) (box : CostBox) (point : Point)
-    (choices seen : List Candidate) (position : ℕ) (entry : Entry) (old new : List A) → IsPermutation (candidates_at box point) choices →
-    seen ≡ choices → Picks seen position old new →
-    (choice : Candidate) × (slice_get choices position ≡ Some choice) × (entry ≡ Split choice.var choice.floor) →
+    (candidates seen : List Candidate) (position : ℕ) (entry : Entry) (old new : List A) → IsPermutation (candidates_at box point) candidates →
+    seen ≡ candidates → Picks seen position old new →
+    (candidate : Candidate) × (slice_get candidates position ≡ Some candidate) × (entry ≡ Split candidate.var candidate.floor) →
     AreReadyFor (IsAt box point) Picks box entry old new
-asked_split Picks box point choices seen position entry old new all same picked at =
+asked_split Picks box point candidates seen position entry old new all same picked at =
     subst (λ (e : Entry). AreReadyFor (IsAt box point) Picks box e old new) (sym at.2)
     (record {
       point = point;
       here = (refl, refl);
-      choices = choices;
+      candidates = candidates;
       all = all;
       position = position;
       picked = subst (λ (cs : List Candidate). Picks cs position old new) same picked;
-      choice = at.0;
-      is_choice = at.1;
+      candidate = at.0;
+      is_candidate = at.1;
       same_var = refl;
       same_value = refl;
     })
@@ -179,13 +180,13 @@ told_forms Tells next old new is same = subst (λ (n : Next). IsToldOf Tells n o
 
 -- of a search that goes on, and of one that ends
 
-told_goes : {A : Type 0} (Tells : Entry → List A → List A → Type 0) (next : Next) (turn : ControlFlow Found Growing) (long : Growing)
-    (old new : List A) → turn ≡ Continue long → IsToldNext Tells next (Ok turn) old new → IsToldOf Tells next old new
-told_goes Tells next turn long old new is told = subst (λ (t : ControlFlow Found Growing). IsToldNext Tells next (Ok t) old new) is told
+told_goes : {A : Type 0} (Tells : Entry → List A → List A → Type 0) (next : Next) (round : ControlFlow Found Growing) (long : Growing)
+    (old new : List A) → round ≡ Continue long → IsToldNext Tells next (Ok round) old new → IsToldOf Tells next old new
+told_goes Tells next round long old new is told = subst (λ (t : ControlFlow Found Growing). IsToldNext Tells next (Ok t) old new) is told
 
-told_ends : {A : Type 0} (Tells : Entry → List A → List A → Type 0) (next : Next) (turn : ControlFlow Found Growing) (found : Found)
-    (old new : List A) → turn ≡ Break found → IsToldNext Tells next (Ok turn) old new → new ≡ old
-told_ends Tells next turn found old new is told = subst (λ (t : ControlFlow Found Growing). IsToldNext Tells next (Ok t) old new) is told
+told_ends : {A : Type 0} (Tells : Entry → List A → List A → Type 0) (next : Next) (round : ControlFlow Found Growing) (found : Found)
+    (old new : List A) → round ≡ Break found → IsToldNext Tells next (Ok round) old new → new ≡ old
+told_ends Tells next round found old new is told = subst (λ (t : ControlFlow Found Growing). IsToldNext Tells next (Ok t) old new) is told
 
 abbrev going : Growing → ControlFlow Found Growing
 going tree = Continue tree
@@ -216,7 +217,7 @@ went_on : {A : Type 0} (IsHere : CostBox → Point → Type 0) (Picks : List Can
     (Tells : Entry → List A → List A → Type 0) (box : CostBox) (nodes : ℕ) (tree long : Growing) (next : Next)
     (old now asked new : List A) → AreCalledAlong IsHere Picks Tells box tree old now →
     IsAskedNext IsHere Picks (first_place tree.places).box (Ok next) now asked → IsToldOf Tells next asked new →
-    going long ≡ turned nodes tree next → AreCalledAlong IsHere Picks Tells box long old new
+    going long ≡ after_round nodes tree next → AreCalledAlong IsHere Picks Tells box long old new
 went_on IsHere Picks Tells box nodes tree long Forms old now asked new along ready told goes =
     subst (λ (t : Growing). AreCalledAlong IsHere Picks Tells box t old new) (sym (same_growing long tree goes))
     (subst (λ (xs : List _). AreCalledAlong IsHere Picks Tells box tree old xs) (sym (told ∙ ready)) along)
@@ -226,12 +227,12 @@ went_on IsHere Picks Tells box nodes tree long (ByEntry entry) old now asked new
 
 pub along_next : {A : Type 0} (IsHere : CostBox → Point → Type 0) (Picks : List Candidate → ℕ → List A → List A → Type 0)
     (Tells : Entry → List A → List A → Type 0) (box : CostBox) (nodes : ℕ) (tree long : Growing) (next : Next)
-    (turn : ControlFlow Found Growing) (old now asked new : List A) → AreCalledAlong IsHere Picks Tells box tree old now →
-    IsAskedNext IsHere Picks (first_place tree.places).box (Ok next) now asked → IsToldNext Tells next (Ok turn) asked new →
-    turn ≡ Continue long → turn ≡ turned nodes tree next → AreCalledAlong IsHere Picks Tells box long old new
-along_next IsHere Picks Tells box nodes tree long next turn old now asked new along ready told is outcome =
+    (round : ControlFlow Found Growing) (old now asked new : List A) → AreCalledAlong IsHere Picks Tells box tree old now →
+    IsAskedNext IsHere Picks (first_place tree.places).box (Ok next) now asked → IsToldNext Tells next (Ok round) asked new →
+    round ≡ Continue long → round ≡ after_round nodes tree next → AreCalledAlong IsHere Picks Tells box long old new
+along_next IsHere Picks Tells box nodes tree long next round old now asked new along ready told is outcome =
     went_on IsHere Picks Tells box nodes tree long next old now asked new along ready
-    (told_goes Tells next turn long asked new is told) (sym is ∙ outcome)
+    (told_goes Tells next round long asked new is told) (sym is ∙ outcome)
 
 -- it ends, maybe with a question for a Split that isn't added
 
@@ -256,12 +257,12 @@ ended_so IsHere Picks Tells box tree (ByEntry entry) old now asked new along rea
     (record { left = now; along = along; last = last_entry IsHere Picks (first_place tree.places).box entry now asked ready })
 
 pub calls_end : {A : Type 0} (IsHere : CostBox → Point → Type 0) (Picks : List Candidate → ℕ → List A → List A → Type 0)
-    (Tells : Entry → List A → List A → Type 0) (box : CostBox) (tree : Growing) (next : Next) (turn : ControlFlow Found Growing)
+    (Tells : Entry → List A → List A → Type 0) (box : CostBox) (tree : Growing) (next : Next) (round : ControlFlow Found Growing)
     (found : Found) (old now asked new : List A) → AreCalledAlong IsHere Picks Tells box tree old now →
-    IsAskedNext IsHere Picks (first_place tree.places).box (Ok next) now asked → IsToldNext Tells next (Ok turn) asked new →
-    turn ≡ Break found → AreCalledBySearch IsHere Picks Tells box tree old new
-calls_end IsHere Picks Tells box tree next turn found old now asked new along ready told is =
-    ended_so IsHere Picks Tells box tree next old now asked new along ready (told_ends Tells next turn found asked new is told)
+    IsAskedNext IsHere Picks (first_place tree.places).box (Ok next) now asked → IsToldNext Tells next (Ok round) asked new →
+    round ≡ Break found → AreCalledBySearch IsHere Picks Tells box tree old new
+calls_end IsHere Picks Tells box tree next round found old now asked new along ready told is =
+    ended_so IsHere Picks Tells box tree next old now asked new along ready (told_ends Tells next round found asked new is told)
 
 -- some tree along which a search called them
 abbrev pub AreSomeCalls : {A : Type 0} → (CostBox → Point → Type 0) → (List Candidate → ℕ → List A → List A → Type 0) →
@@ -294,7 +295,8 @@ wanting_end IsHere Picks Tells box tree next old now asked new along ready (inr 
 found_full : (IsHere : CostBox → Point → Type 0) (nodes : ℕ) (tree : Growing) (entry : Entry) (found : Found) (full : Bool) →
     ended found ≡ (if full then Break (Undecided (tree.entries ++ undones (length tree.places))) else Continue (grown tree entry)) →
     IsTreeOf IsHere tree found
-found_full IsHere nodes tree entry found true ends = subst (IsTreeOf IsHere tree) (sym (same_found found (Undecided (tree.entries ++ undones (length tree.places))) ends)) refl
+found_full IsHere nodes tree entry found true ends = subst (IsTreeOf IsHere tree) (sym (same_found found
+    (Undecided (tree.entries ++ undones (length tree.places))) ends)) refl
 found_full IsHere nodes tree entry found false ends = absurd (cc)
 
 -- where costs come next, they are those of the point that is asked for in the box
@@ -310,7 +312,7 @@ there_if_costs accepted top old new place (Costs w) is = is.2
 there_if_costs accepted top old new place (ByEntry entry) is = tt
 
 pub tree_found : (IsHere : CostBox → Point → Type 0) (nodes : ℕ) (tree : Growing) (next : Next) (found : Found) →
-    IsThereIfCosts IsHere (first_place tree.places).box next → ended found ≡ turned nodes tree next → IsTreeOf IsHere tree found
+    IsThereIfCosts IsHere (first_place tree.places).box next → ended found ≡ after_round nodes tree next → IsTreeOf IsHere tree found
 tree_found IsHere nodes tree Forms found there ends = absurd (cc)
 tree_found IsHere nodes tree (Costs w) found there ends = subst (IsTreeOf IsHere tree) (sym (same_found found (FoundCosts w) ends)) there
 tree_found IsHere nodes tree (ByEntry entry) found there ends = found_full IsHere nodes tree entry found (length tree.entries == nodes) ends

@@ -9,7 +9,7 @@ use lib.IntN.{+ℤ_idr}
 use Rattle.area_graph.specs.declared.Point.{Point}
 use Rattle.area_graph.specs.Costs.{at_costs}
 use Rattle.design_problem.specs.Forms.{Form, AreMet}
-use Rattle.design_problem.specs.declared.form.CostBox.{CostBox}
+use Rattle.design_problem.specs.declared.boxes.CostBox.{CostBox}
 use Rattle.design_problem.specs.Forms.{added, dot, form_at, value_at, weighted}
 use Rattle.design_problem.specs.Boxes.{IsBox, IsInBox, IsPointOf, Refutes, greatest, upper_term, upper_sum}
 use Rattle.design_problem.specs.Trees.{CutsAt}
@@ -108,12 +108,13 @@ inside_most n box w kept inside = each_at (λ x. x ≤ 65535) w (λ k k_in.
     let most = high_last n box kept k (omega (arith, inside.low_count, kept.is_box.low_count)) in
     omega arith)
 
--- whole costs whose point lies in a box lie in it
-scaled_at : (w : List ℕ) (scale k : ℕ) → slice_index (map (λ x. x * scale) w) k ≡ slice_index w k * scale
+-- the value of a variable at multiples of costs
+pub scaled_at : (w : List ℕ) (scale k : ℕ) → slice_index (map (λ x. x * scale) w) k ≡ slice_index w k * scale
 scaled_at [] scale k = omega arith
 scaled_at (x ∷ w) scale zero = refl
 scaled_at (x ∷ w) scale (suc k) = scaled_at w scale k
 
+-- whole costs whose point lies in a box lie in it
 unscaled : (a b scale : ℕ) → 0 < scale → a * scale ≤ b * scale → a ≤ b
 unscaled a b scale some less =
     elim (cases_lt b a) [

@@ -3,10 +3,10 @@ use Rattle.std.proofs.Common.{◌≡◌, ◌≢◌, ℕ, zero, suc, ◌+◌, ◌
 use Rattle.std.proofs.lemmas.Bool.{eq-eqb, eqb-false, eqb-true}
 use Rattle.std.proofs.lemmas.List.{append-nil, get_or_default, length-append}
 use Rattle.std.specs.Prelude.{All, Contains, slice_index}
-use Rattle.std.proofs.lemmas.List.Elements.{Contains-append_right}
+use Rattle.std.proofs.lemmas.List.Elements.{Contains-append_right, All-push}
 use Rattle.area_graph.specs.declared.Point.{Point}
 use Rattle.design_problem.specs.Forms.{Form}
-use Rattle.design_problem.specs.declared.form.CostBox.{CostBox}
+use Rattle.design_problem.specs.declared.boxes.CostBox.{CostBox}
 use Rattle.design_problem.specs.declared.tree.Entry.{Entry}
 use Rattle.design_problem.specs.declared.tree.Entry.TheVariants.{Undone}
 use Rattle.design_problem.specs.Boxes.{IsBox, IsInBox}
@@ -19,13 +19,13 @@ use Rattle.design_problem.proofs.Renumbering.{opens_kept}
 use Rattle.design_problem.proofs.TreeShapes.{sound_whole}
 use Rattle.form_search.specs.Sources.{Grows, SameFor}
 use Rattle.form_search.specs.Points.{IsCostsBox}
-use Rattle.form_search.specs.Finds.{IsSearchTree, IsShort}
+use Rattle.design_problem.specs.SearchTrees.{IsSearchTree, IsShort}
 use Rattle.form_search.specs.declared.found.Found.{Found}
 use Rattle.form_search.specs.declared.found.Found.TheVariants.{Undecided}
-use Rattle.form_search.specs.declared.next_entry.Next.{Next}
-use Rattle.form_search.specs.declared.next_entry.Next.TheVariants.{Forms, Costs, Entry as ByEntry}
+use Rattle.form_search.specs.declared.desk.Next.{Next}
+use Rattle.form_search.specs.declared.desk.Next.TheVariants.{Forms, Costs, Entry as ByEntry}
 use Rattle.form_search.specs.Finds.{IsSearchResult}
-use Rattle.form_search.specs.Turns.{IsNextStep, IsNextEntry, turned}
+use Rattle.form_search.specs.NextEntries.{IsNextStep, IsNextEntry, after_round}
 use Rattle.form_search.proofs.MissingForms.{missing, missing_few}
 use Rattle.form_search.proofs.Relaxing.{new_falls}
 use Rattle.form_search.proofs.OtherSources.{next_same}
@@ -80,12 +80,6 @@ first_costs n box part kept within = record {
     upper : (a b : ℕ) → a ≤ 65535 → b ≤ a → b ≤ 65535
     upper a b few less = omega arith
 
-all_more : (P : Entry → Type 0) (entries : List Entry) (entry : Entry) → All P entries → P entry → All P (entries ++ entry ∷ [])
-all_more P [] entry all one zero d k_in = one
-all_more P [] entry all one (suc k) d k_in = absurd (omega arith)
-all_more P (e ∷ entries) entry all one zero d k_in = all 0 d (omega arith)
-all_more P (e ∷ entries) entry all one (suc k) d k_in = all_more P entries entry (λ i f i_in. all (suc i) f (omega arith)) one k d (omega arith)
-
 -- one more entry
 pub growing_more : (accepted : Point → Type 0) (top nodes : ℕ) (forms : List Form) (box : CostBox) (tree : Growing)
     (entry : Entry) → IsBox (length box.low) box → IsGrowing accepted top nodes forms box tree →
@@ -96,7 +90,7 @@ growing_more accepted top nodes forms box tree entry kept growing some left next
   opens = at_first tree.places some growing.opens next;
   closed = closed_more tree.entries entry growing.closed next.closed;
   short =
-      all_more (IsShort (length box.low)) tree.entries entry growing.short
+      All-push (IsShort (length box.low)) tree.entries entry growing.short
       (subst (λ (n : ℕ). IsShort n entry)
       (first_in accepted top (length box.low) forms box tree.entries tree.places kept some
       growing.opens).is_box.low_count next.short);
@@ -187,49 +181,49 @@ ended_whole accepted top nodes forms box tree growing none =
     earnest_whole accepted top forms box tree.entries (growing_ends accepted top nodes forms box tree growing none).0.earnest
 
 -- the tree goes on growing, or shows what was found
-abbrev pub IsTurned : (Point → Type 0) → ℕ → ℕ → List Form → CostBox → ControlFlow Found Growing → Type 0
-IsTurned accepted top nodes forms box (Continue tree) = IsGrowing accepted top nodes forms box tree
-IsTurned accepted top nodes forms box (Break found) = IsSearchResult accepted top nodes forms box found
+abbrev pub IsAfterRound : (Point → Type 0) → ℕ → ℕ → List Form → CostBox → ControlFlow Found Growing → Type 0
+IsAfterRound accepted top nodes forms box (Continue tree) = IsGrowing accepted top nodes forms box tree
+IsAfterRound accepted top nodes forms box (Break found) = IsSearchResult accepted top nodes forms box found
 
 -- by what may come next
-turned_growing : (IsTrue : Form → Type 0) (accepted : Point → Type 0) (top nodes : ℕ) (old new : List Form)
+round_growing : (IsTrue : Form → Type 0) (accepted : Point → Type 0) (top nodes : ℕ) (old new : List Form)
     (box : CostBox) (tree : Growing) (next : Next) → IsBox (length box.low) box → Grows IsTrue old new →
     IsGrowing accepted top nodes old box tree → 0 < length tree.places →
     IsNextStep accepted top old new (first_place tree.places) next →
-    IsTurned accepted top nodes new box (turned nodes tree next)
-turned_growing IsTrue accepted top nodes old new box tree Forms kept grows growing some is =
+    IsAfterRound accepted top nodes new box (after_round nodes tree next)
+round_growing IsTrue accepted top nodes old new box tree Forms kept grows growing some is =
     growing_kept IsTrue accepted top nodes old new box tree grows growing
-turned_growing IsTrue accepted top nodes old new box tree (Costs w) kept grows growing some is =
+round_growing IsTrue accepted top nodes old new box tree (Costs w) kept grows growing some is =
     (first_found accepted top nodes old box tree w kept growing some is.0, is.1)
-turned_growing IsTrue accepted top nodes old new box tree (ByEntry entry) kept grows growing some is = by (length tree.entries == nodes) refl
+round_growing IsTrue accepted top nodes old new box tree (ByEntry entry) kept grows growing some is = by (length tree.entries == nodes) refl
   where
     after : IsGrowing accepted top nodes new box tree
     after = growing_kept IsTrue accepted top nodes old new box tree grows growing
 
     by : (full : Bool) → (length tree.entries == nodes) ≡ full →
-        IsTurned accepted top nodes new box
+        IsAfterRound accepted top nodes new box
         (if full then Break (Undecided (tree.entries ++ undones (length tree.places))) else Continue (grown tree entry))
     by true full = growing_undone accepted top nodes new box tree after some (eqb-true (length tree.entries) nodes full)
     by false left = growing_more accepted top nodes new box tree entry kept after some (eqb-false (length tree.entries) nodes left) is
 
--- so does what a turn comes to, where the next thing comes by a source that accepts the same points
-pub turn_shown : (IsTrue : Form → Type 0) (accepted other : Point → Type 0) (top nodes n : ℕ) (old new : List Form)
-    (box : CostBox) (tree : Growing) (next : Next) (turn shown : ControlFlow Found Growing) → IsBox n box →
+-- so does what a round comes to, where the next thing comes by a source that accepts the same points
+pub round_shown : (IsTrue : Form → Type 0) (accepted other : Point → Type 0) (top nodes n : ℕ) (old new : List Form)
+    (box : CostBox) (tree : Growing) (next : Next) (round shown : ControlFlow Found Growing) → IsBox n box →
     SameFor accepted other → Grows IsTrue old new → IsGrowing accepted top nodes old box tree → 0 < length tree.places →
-    IsNextStep other top old new (first_place tree.places) next → turn ≡ turned nodes tree next → turn ≡ shown →
-    IsTurned accepted top nodes new box shown
-turn_shown IsTrue accepted other top nodes n old new box tree next turn shown kept same grows growing some is outcome said =
+    IsNextStep other top old new (first_place tree.places) next → round ≡ after_round nodes tree next → round ≡ shown →
+    IsAfterRound accepted top nodes new box shown
+round_shown IsTrue accepted other top nodes n old new box tree next round shown kept same grows growing some is outcome said =
     let is_box : IsBox (length box.low) box = subst (λ (m : ℕ). IsBox m box) (sym kept.low_count) kept in
-    subst (IsTurned accepted top nodes new box) (sym outcome ∙ said)
-    (turned_growing IsTrue accepted top nodes old new box tree next is_box grows growing some
+    subst (IsAfterRound accepted top nodes new box) (sym outcome ∙ said)
+    (round_growing IsTrue accepted top nodes old new box tree next is_box grows growing some
     (next_same accepted other top old new (first_place tree.places) next same is))
 
 -- the tree has as many entries as it may have
-pub turned_full : (nodes : ℕ) (tree : Growing) (entry : Entry) (next : Next) (whole : List Entry) →
+pub after_round_full : (nodes : ℕ) (tree : Growing) (entry : Entry) (next : Next) (whole : List Entry) →
     next ≡ ByEntry entry → length tree.entries ≡ nodes → whole ≡ tree.entries ++ undones (length tree.places) →
-    Break (Undecided whole) ≡ turned nodes tree next
-turned_full nodes tree entry next whole is full same =
-    subst (λ (n : Next). Break (Undecided whole) ≡ turned nodes tree n) (sym is)
+    Break (Undecided whole) ≡ after_round nodes tree next
+after_round_full nodes tree entry next whole is full same =
+    subst (λ (n : Next). Break (Undecided whole) ≡ after_round nodes tree n) (sym is)
     (subst (λ (b : Bool). Break (Undecided whole)
     ≡ (if b then Break (Undecided (tree.entries ++ undones (length tree.places))) else Continue (grown tree entry)))
     (sym (eq-eqb (length tree.entries) nodes full))
@@ -237,7 +231,7 @@ turned_full nodes tree entry next whole is full same =
 
 -- how much is left of a search: the entries that the tree may still get, and the forms that the pool may
 abbrev pub left_of : ℕ → List Form → List Form → Growing → ℕ
-left_of nodes candidates forms tree = (nodes - length tree.entries) * (length candidates + 1) + missing candidates forms
+left_of nodes possible_forms forms tree = (nodes - length tree.entries) * (length possible_forms + 1) + missing possible_forms forms
 
 one_less : (nodes entries longer few less more : ℕ) → longer ≡ entries + 1 → entries < nodes → less ≤ few →
     (nodes - longer) * (few + 1) + less < (nodes - entries) * (few + 1) + more
@@ -251,35 +245,35 @@ one_less nodes entries longer few less more one some at_most =
 same_tree : (t u : Growing) → (let x : ControlFlow Found Growing = Continue u in x) ≡ Continue t → t ≡ u
 same_tree t u e = cc
 
--- each turn leaves less
-turned_falls : (IsTrue : Form → Type 0) (accepted : Point → Type 0) (top nodes : ℕ) (candidates old new : List Form)
-    (place : OpenPlace) (tree longer : Growing) (next : Next) → ((form : Form) → IsTrue form → Contains candidates form) →
+-- each round leaves less
+after_round_falls : (IsTrue : Form → Type 0) (accepted : Point → Type 0) (top nodes : ℕ) (possible_forms old new : List Form)
+    (place : OpenPlace) (tree longer : Growing) (next : Next) → ((form : Form) → IsTrue form → Contains possible_forms form) →
     Grows IsTrue old new → length tree.entries ≤ nodes → IsNextStep accepted top old new place next →
-    Continue longer ≡ turned nodes tree next → left_of nodes candidates new longer < left_of nodes candidates old tree
-turned_falls IsTrue accepted top nodes candidates old new place tree longer Forms listed grows few is goes =
-    subst (λ (t : Growing). left_of nodes candidates new t < left_of nodes candidates old tree) (same_tree tree longer goes)
-    (let less = new_falls IsTrue candidates old new listed grows is in omega arith)
-turned_falls IsTrue accepted top nodes candidates old new place tree longer (Costs w) listed grows few is goes = absurd (cc)
-turned_falls IsTrue accepted top nodes candidates old new place tree longer (ByEntry entry) listed grows few is goes =
+    Continue longer ≡ after_round nodes tree next → left_of nodes possible_forms new longer < left_of nodes possible_forms old tree
+after_round_falls IsTrue accepted top nodes possible_forms old new place tree longer Forms listed grows few is goes =
+    subst (λ (t : Growing). left_of nodes possible_forms new t < left_of nodes possible_forms old tree) (same_tree tree longer goes)
+    (let less = new_falls IsTrue possible_forms old new listed grows is in omega arith)
+after_round_falls IsTrue accepted top nodes possible_forms old new place tree longer (Costs w) listed grows few is goes = absurd (cc)
+after_round_falls IsTrue accepted top nodes possible_forms old new place tree longer (ByEntry entry) listed grows few is goes =
     by (length tree.entries == nodes) refl goes
   where
     by : (full : Bool) → (length tree.entries == nodes) ≡ full →
         Continue longer ≡ (if full then Break (Undecided (tree.entries ++ undones (length tree.places))) else
-        Continue (grown tree entry)) → left_of nodes candidates new longer < left_of nodes candidates old tree
+        Continue (grown tree entry)) → left_of nodes possible_forms new longer < left_of nodes possible_forms old tree
     by true full goes_on = absurd (cc)
     by false left goes_on =
-        subst (λ (t : Growing). left_of nodes candidates new t < left_of nodes candidates old tree) (same_tree (grown tree entry) longer goes_on)
-        (one_less nodes (length tree.entries) (length (tree.entries ++ entry ∷ [])) (length candidates)
-        (missing candidates new) (missing candidates old) (length-append tree.entries (entry ∷ [])) (let other =
-        eqb-false (length tree.entries) nodes left in omega arith) (missing_few candidates new))
+        subst (λ (t : Growing). left_of nodes possible_forms new t < left_of nodes possible_forms old tree) (same_tree (grown tree entry) longer goes_on)
+        (one_less nodes (length tree.entries) (length (tree.entries ++ entry ∷ [])) (length possible_forms)
+        (missing possible_forms new) (missing possible_forms old) (length-append tree.entries (entry ∷ [])) (let other =
+        eqb-false (length tree.entries) nodes left in omega arith) (missing_few possible_forms new))
 
-pub turn_falls : (IsTrue : Form → Type 0) (accepted : Point → Type 0) (top nodes : ℕ)
-    (candidates listed old new : List Form) (place : OpenPlace) (tree longer : Growing) (next : Next)
-    (turn : ControlFlow Found Growing) → ((form : Form) → IsTrue form → Contains listed form) → listed ≡ candidates →
+pub round_falls : (IsTrue : Form → Type 0) (accepted : Point → Type 0) (top nodes : ℕ)
+    (possible_forms listed old new : List Form) (place : OpenPlace) (tree longer : Growing) (next : Next)
+    (round : ControlFlow Found Growing) → ((form : Form) → IsTrue form → Contains listed form) → listed ≡ possible_forms →
     Grows IsTrue old new → length tree.entries ≤ nodes → IsNextStep accepted top old new place next →
-    turn ≡ turned nodes tree next → turn ≡ Continue longer →
-    left_of nodes candidates new longer < left_of nodes candidates old tree
-turn_falls IsTrue accepted top nodes candidates listed old new place tree longer next turn stands same grows few is outcome said =
-    turned_falls IsTrue accepted top nodes candidates old new place tree longer next
+    round ≡ after_round nodes tree next → round ≡ Continue longer →
+    left_of nodes possible_forms new longer < left_of nodes possible_forms old tree
+round_falls IsTrue accepted top nodes possible_forms listed old new place tree longer next round stands same grows few is outcome said =
+    after_round_falls IsTrue accepted top nodes possible_forms old new place tree longer next
     (λ form is_true. subst (λ (forms : List Form). Contains forms form) same (stands form is_true))
     grows few is (sym said ∙ outcome)

@@ -5,7 +5,7 @@ use Rattle.std.proofs.lemmas.List.{take_all, take_more}
 use Rattle.wide_fraction.specs.declared.steps.Wide.{Wide}
 use Rattle.area_graph.specs.declared.Point.{Point}
 use Rattle.design_problem.specs.Forms.{Form}
-use Rattle.design_problem.specs.declared.form.CostBox.{CostBox}
+use Rattle.design_problem.specs.declared.boxes.CostBox.{CostBox}
 use Rattle.design_problem.specs.declared.tree.Member.{Member}
 use Rattle.design_problem.specs.Steps.{IsStepTooWide}
 use Rattle.fraction_table.specs.declared.stage.SimplexStop.{SimplexStop}
@@ -14,8 +14,8 @@ use Rattle.fraction_table.specs.declared.stage.Stage.{Stage}
 use Rattle.fraction_table.specs.declared.stage.Stage.TheVariants.{Stopped}
 use Rattle.fraction_table.specs.Tableaus.{Held, IsGoing, IsRowRefused, IsTableauStopped, wide_at}
 use Rattle.exact_simplex.specs.Actives.{TableauState, held_by}
-use Rattle.form_search.specs.declared.table.HeldTableau.{HeldTableau}
-use Rattle.form_search.specs.declared.table.Least.{Least}
+use Rattle.form_search.specs.declared.held_tableau.HeldTableau.{HeldTableau}
+use Rattle.form_search.specs.declared.held_tableau.Least.{Least}
 use Rattle.form_search.specs.Tables.{IsHeld, IsHeldOver, IsLeastTold, IsStepTold, KeepsForms, KeepsRows, StandsAt}
 
 -- what holds whatever a result is

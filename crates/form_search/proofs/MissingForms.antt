@@ -25,10 +25,10 @@ same_form_decides f g =
 abbrev pub has_form : List Form → Form → Bool
 has_form pool form = is_member same_form pool form
 
--- how many of the candidates stand not in the pool
+-- how many of the possible forms stand not in the pool
 abbrev pub missing : List Form → List Form → ℕ
 missing [] pool = 0
-missing (form ∷ candidates) pool = cond (has_form pool form) 0 1 + missing candidates pool
+missing (form ∷ possible_forms) pool = cond (has_form pool form) 0 1 + missing possible_forms pool
 
 has_decides : (pool : List Form) (form : Form) → Decides (has_form pool form) (Contains pool form)
 has_decides pool form = is_member-Decides same_form_decides pool form
@@ -45,11 +45,11 @@ one_rises_not false true keeps = omega arith
 one_rises_not false false keeps = omega arith
 
 -- with more forms in the pool no more are missing
-pub missing_never_rises : (candidates old new more : List Form) → new ≡ old ++ more → missing candidates new ≤ missing candidates old
+pub missing_never_rises : (possible_forms old new more : List Form) → new ≡ old ++ more → missing possible_forms new ≤ missing possible_forms old
 missing_never_rises [] old new more same = omega arith
-missing_never_rises (form ∷ candidates) old new more same =
+missing_never_rises (form ∷ possible_forms) old new more same =
     let here = one_rises_not (has_form old form) (has_form new form) (has_more old new more form same) in
-    let rest = missing_never_rises candidates old new more same in
+    let rest = missing_never_rises possible_forms old new more same in
     omega arith
 
 one_falls : (before after : Bool) → before ≡ false → after ≡ true → cond after 0 1 < cond before 0 1
@@ -64,11 +64,11 @@ lacks pool form not = by (has_form pool form) (has_decides pool form).0
     by true has = absurd (not (has refl))
     by false has = refl
 
--- with a candidate that the pool lacked fewer are missing
-pub missing_falls : (candidates old new : List Form) (form : Form) (more : List Form) → new ≡ old ++ more →
-    Contains candidates form → Contains new form → (Contains old form → ⊥) →
-    missing candidates new < missing candidates old
-missing_falls candidates old new form more same listed is_new not_old = at candidates listed.0 listed.1 listed.2
+-- with a possible form that the pool lacked fewer are missing
+pub missing_falls : (possible_forms old new : List Form) (form : Form) (more : List Form) → new ≡ old ++ more →
+    Contains possible_forms form → Contains new form → (Contains old form → ⊥) →
+    missing possible_forms new < missing possible_forms old
+missing_falls possible_forms old new form more same listed is_new not_old = at possible_forms listed.0 listed.1 listed.2
   where
     at : (cs : List Form) (k : ℕ) → k < length cs → slice_index_or cs k form ≡ form → missing cs new < missing cs old
     at [] k k_in is = absurd (omega arith)
@@ -88,9 +88,9 @@ one_at_most true = omega arith
 one_at_most false = omega arith
 
 -- no more are missing than there are
-pub missing_few : (candidates pool : List Form) → missing candidates pool ≤ length candidates
+pub missing_few : (possible_forms pool : List Form) → missing possible_forms pool ≤ length possible_forms
 missing_few [] pool = omega arith
-missing_few (form ∷ candidates) pool =
+missing_few (form ∷ possible_forms) pool =
     let here = one_at_most (has_form pool form) in
-    let rest = missing_few candidates pool in
+    let rest = missing_few possible_forms pool in
     omega arith

@@ -3,7 +3,7 @@ use Rattle.std.proofs.Common.{◌≡◌, ℕ, zero, suc, ◌^◌, ◌<◌, refl,
 use Rattle.std.specs.Prelude.{pos, ◌<ℤ◌, All}
 use Rattle.area_graph.specs.declared.Point.{Point}
 use Rattle.design_problem.specs.Forms.{Form}
-use Rattle.design_problem.specs.declared.form.CostBox.{CostBox}
+use Rattle.design_problem.specs.declared.boxes.CostBox.{CostBox}
 use Rattle.design_problem.specs.declared.tree.WideAt.{WideAt}
 use Rattle.design_problem.specs.declared.tree.Entry.{Entry}
 use Rattle.design_problem.specs.declared.tree.Entry.TheVariants.{Tighten, Split, Halve, Refute, Undone}
@@ -12,11 +12,11 @@ use Rattle.design_problem.specs.Boxes.{IsBox, greatest}
 use Rattle.design_problem.specs.Steps.{IsStepTooWide}
 use Rattle.design_problem.specs.Earnest.{IsLeastPoint, OpenPlace}
 use Rattle.design_problem.proofs.Renumbering.{too_wide_kept}
-use Rattle.form_search.specs.declared.table.HeldTableau.{HeldTableau}
+use Rattle.form_search.specs.declared.held_tableau.HeldTableau.{HeldTableau}
 use Rattle.cut_advisors.specs.declared.candidate.Candidate.{Candidate}
 use Rattle.form_search.specs.Points.{IsFractional}
 use Rattle.form_search.specs.Tables.{IsHeld, IsPrintedWide}
-use Rattle.form_search.specs.Turns.{IsNextEntry, IsNextRow, IsSplitAt}
+use Rattle.form_search.specs.NextEntries.{IsNextEntry, IsNextRow, IsSplitAt}
 use Rattle.form_search.proofs.CostPoints.{candidate_cuts, candidate_splits, refutes_one}
 
 -- the Refute by one form

@@ -3,17 +3,18 @@ use Rattle.std.proofs.Common.{ℕ, List}
 use Rattle.area_graph.specs.declared.Point.{Point}
 use Rattle.area_graph.specs.Costs.{at_costs}
 use Rattle.design_problem.specs.Forms.{Form}
-use Rattle.design_problem.specs.declared.form.CostBox.{CostBox}
+use Rattle.design_problem.specs.declared.boxes.CostBox.{CostBox}
 use Rattle.design_problem.specs.declared.tree.Entry.{Entry}
 use Rattle.design_problem.specs.declared.tree.Entry.TheVariants.{Tighten, Split, Halve, Refute, Undone}
 use Rattle.design_problem.specs.Earnest.{EarnestAt, IsLeastPoint, OpenPlace}
-use Rattle.form_search.specs.declared.next_entry.Next.{Next}
-use Rattle.form_search.specs.declared.next_entry.Next.TheVariants.{Forms, Costs, Entry as ByEntry}
+use Rattle.form_search.specs.declared.desk.Next.{Next}
+use Rattle.form_search.specs.declared.desk.Next.TheVariants.{Forms, Costs, Entry as ByEntry}
 use Rattle.form_search.specs.Sources.{SameFor}
 use Rattle.form_search.specs.Points.{AreCostsThere}
-use Rattle.form_search.specs.Turns.{IsNextStep}
+use Rattle.form_search.specs.NextEntries.{IsNextStep}
 
-pub least_same : (accepted other : Point → Type 0) (box : CostBox) (point : Point) → SameFor accepted other → IsLeastPoint accepted box point → IsLeastPoint other box point
+pub least_same : (accepted other : Point → Type 0) (box : CostBox) (point : Point) → SameFor accepted other → IsLeastPoint accepted box point →
+    IsLeastPoint other box point
 least_same accepted other box point same least = record {
   inside = least.inside;
   accepted = (same point).0 least.accepted;

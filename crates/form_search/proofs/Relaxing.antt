@@ -6,14 +6,14 @@ use Rattle.std.proofs.lemmas.List.{length-append, take-append-le}
 use Rattle.std.proofs.lemmas.List.Elements.{Contains-append_cases}
 use Rattle.area_graph.specs.declared.Point.{Point}
 use Rattle.design_problem.specs.Forms.{Form}
-use Rattle.design_problem.specs.declared.form.CostBox.{CostBox}
+use Rattle.design_problem.specs.declared.boxes.CostBox.{CostBox}
 use Rattle.fraction_table.specs.Tableaus.{FitsBox}
 use Rattle.form_search.specs.declared.relaxation.Relaxed.{Relaxed}
-use Rattle.form_search.specs.declared.table.HeldTableau.{HeldTableau}
+use Rattle.form_search.specs.declared.held_tableau.HeldTableau.{HeldTableau}
 use Rattle.form_search.specs.Sources.{Grows, IsTrueForm}
 use Rattle.form_search.specs.Points.{IsCostsBox}
 use Rattle.form_search.specs.Tables.{IsHeld, IsRelaxation, IsRoundTold, IsTableauKept, StandsAt}
-use Rattle.form_search.specs.Turns.{HasNew}
+use Rattle.form_search.specs.NextEntries.{HasNew}
 use Rattle.form_search.proofs.CostPoints.{low_values}
 use Rattle.form_search.proofs.MissingForms.{missing, missing_falls}
 
@@ -83,10 +83,10 @@ new_true IsTrue old new form grows is_new not_old =
       | inr later ↦ subst IsTrue later.2 (grows.more_true later.0 form later.1)
     ]
 
--- so fewer candidates are missing
-pub new_falls : (IsTrue : Form → Type 0) (candidates old new : List Form) →
-    ((form : Form) → IsTrue form → Contains candidates form) → Grows IsTrue old new → HasNew old new →
-    missing candidates new < missing candidates old
-new_falls IsTrue candidates old new listed grows has =
-    missing_falls candidates old new has.form grows.more grows.same
+-- so fewer possible forms are missing
+pub new_falls : (IsTrue : Form → Type 0) (possible_forms old new : List Form) →
+    ((form : Form) → IsTrue form → Contains possible_forms form) → Grows IsTrue old new → HasNew old new →
+    missing possible_forms new < missing possible_forms old
+new_falls IsTrue possible_forms old new listed grows has =
+    missing_falls possible_forms old new has.form grows.more grows.same
     (listed has.form (new_true IsTrue old new has.form grows has.is_new has.not_old)) has.is_new has.not_old

@@ -5,7 +5,7 @@ use Rattle.std.proofs.lemmas.Bool.{false≢true}
 use Rattle.std.proofs.lemmas.List.Elements.{All-append, All-nil}
 use Rattle.area_graph.specs.declared.Point.{Point}
 use Rattle.design_problem.specs.Forms.{Form}
-use Rattle.form_search.specs.declared.source.RowSource.{Ghosts}
+use Rattle.form_search.specs.declared.source.FormSource.{Ghosts}
 use Rattle.form_search.specs.Sources.{Grows, SameFor, SameSource}
 use Rattle.form_search.specs.Calls.{AreInStep, Leaves}
 
@@ -37,22 +37,22 @@ trues_kept First Second old new same all grows =
     all_same First Second new same (subst (λ (fs : List Form). All First fs) (sym grows.same) (All-append First old grows.more all grows.more_true))
 
 module _ {Source : Type 0} (count : Source → ℕ) (accepted : Source → Point → Type 0) (true_form : Source → Form →
-    Type 0) (candidates : Source → List Form) where
-  pub same_alike : (source : Source) → SameSource count accepted true_form candidates source source
+    Type 0) (possible_forms : Source → List Form) where
+  pub same_alike : (source : Source) → SameSource count accepted true_form possible_forms source source
   same_alike source = record {
     same_count = refl;
     same_points = λ x. (λ is. is, λ is. is);
     same_forms = λ x. (λ is. is, λ is. is);
-    same_candidates = refl;
+    same_possible_forms = refl;
   }
 
-  pub same_then : (old mid new : Source) → SameSource count accepted true_form candidates old mid →
-      SameSource count accepted true_form candidates mid new → SameSource count accepted true_form candidates old new
+  pub same_then : (old mid new : Source) → SameSource count accepted true_form possible_forms old mid →
+      SameSource count accepted true_form possible_forms mid new → SameSource count accepted true_form possible_forms old new
   same_then old mid new first second = record {
     same_count = second.same_count ∙ first.same_count;
     same_points = same_for_then (accepted old) (accepted mid) (accepted new) first.same_points second.same_points;
     same_forms = same_for_then (true_form old) (true_form mid) (true_form new) first.same_forms second.same_forms;
-    same_candidates = second.same_candidates ∙ first.same_candidates;
+    same_possible_forms = second.same_possible_forms ∙ first.same_possible_forms;
   }
 
 module _ {Source : Type 0} (members : Ghosts Source) where
@@ -60,7 +60,7 @@ module _ {Source : Type 0} (members : Ghosts Source) where
   pub leaves_none : (source : Source) (forms : List Form) → members.in_step source forms → Leaves members (λ P. P) source source forms forms
   leaves_none source forms lists = record {
     grows = grows_none (members.true_form source) forms;
-    same = same_alike members.count members.accepted members.true_form members.candidates source;
+    same = same_alike members.count members.accepted members.true_form members.possible_forms source;
     lists = lists;
   }
 
@@ -70,7 +70,7 @@ module _ {Source : Type 0} (members : Ghosts Source) where
   leaves_failed source old new (Ok x) failed same = absurd (false≢true failed)
   leaves_failed source old new (Err e) failed same = record {
     grows = subst (λ (fs : List Form). Grows (members.true_form source) old fs) (sym same) (grows_none (members.true_form source) old);
-    same = same_alike members.count members.accepted members.true_form members.candidates source;
+    same = same_alike members.count members.accepted members.true_form members.possible_forms source;
     lists = tt;
   }
 
@@ -80,7 +80,7 @@ module _ {Source : Type 0} (members : Ghosts Source) where
       Both (members.in_step new new_forms) → Leaves members Both old new old_forms new_forms
   leaves_then old mid new old_forms mid_forms new_forms first second lists = record {
     grows = grows_then (members.true_form old) (members.true_form mid) old_forms mid_forms new_forms first.same.same_forms first.grows second.grows;
-    same = same_then members.count members.accepted members.true_form members.candidates old mid new first.same second.same;
+    same = same_then members.count members.accepted members.true_form members.possible_forms old mid new first.same second.same;
     lists = lists;
   }
 

@@ -1,7 +1,7 @@
 pub mod Sources
 pub mod Calls
 pub mod Finds
-pub mod Advised
+pub mod AdvisorsAsked
 pub mod Points
 pub mod Tables
-pub mod Turns
+pub mod NextEntries

@@ -1,7 +1,7 @@
 -- Points of a box, whole and fractional, and the candidates for a cut there.
 use Rattle.std.specs.Prelude.{◌≡◌, ℕ, ◌⊎◌, zero, suc, ◌+◌, ◌*◌, ◌/◌, ◌^◌, ◌<◌, ◌≤◌, ◌%◌, ◌==◌, List, [], ◌∷◌, ◌++◌, slice_index, All, length, if◌then◌else◌}
 use Rattle.area_graph.specs.declared.Point.{Point}
-use Rattle.design_problem.specs.declared.form.CostBox.{CostBox}
+use Rattle.design_problem.specs.declared.boxes.CostBox.{CostBox}
 use Rattle.design_problem.specs.Boxes.{IsBox}
 use Rattle.design_problem.specs.Earnest.{IsLeastPoint}
 use Rattle.form_search.specs.Sources.{scaled}
@@ -33,7 +33,8 @@ pub record AreCostsThere (IsHere : CostBox → Point → Type 0) (box : CostBox)
   pub here : IsHere box point
   pub costs : AreCostsOf point w
 
--- the candidate's variable is fractional at the point, between its floor and the next whole number, and its range is the box's
+-- the candidate's variable is fractional at the point, between its floor and the next whole number, and its range is
+-- the box's
 pub record IsFractional (box : CostBox) (point : Point) (candidate : Candidate) : Type 0 where
   pub known : candidate.var < length point.values
   pub above : candidate.floor * point.scale < slice_index point.values candidate.var

@@ -29,13 +29,14 @@ scaled w scale = record { scale = scale; values = map (λ x. x * scale) w }
 abbrev pub SameFor : {X : Type 0} → (X → Type 0) → (X → Type 0) → Type 0
 SameFor {X} Before After = (x : X) → Before x ↔ After x
 
--- what no call of a source changes: how many variables it has, what it accepts, which forms are true, and the list of these
+-- what no call of a source changes: how many variables it has, what it accepts, which forms are true, and the list of
+-- these
 pub record SameSource {Source : Type 0} (count : Source → ℕ) (accepted : Source → Point → Type 0) (true_form : Source →
-    Form → Type 0) (candidates : Source → List Form) (old new : Source) : Type 0 where
+    Form → Type 0) (possible_forms : Source → List Form) (old new : Source) : Type 0 where
   pub same_count : count new ≡ count old
   pub same_points : SameFor (accepted old) (accepted new)
   pub same_forms : SameFor (true_form old) (true_form new)
-  pub same_candidates : candidates new ≡ candidates old
+  pub same_possible_forms : possible_forms new ≡ possible_forms old
 
 -- true forms came at the pool's end, and nothing else
 pub record Grows (IsTrue : Form → Type 0) (old new : List Form) : Type 0 where
@@ -44,7 +45,7 @@ pub record Grows (IsTrue : Form → Type 0) (old new : List Form) : Type 0 where
   pub more_true : All IsTrue more
 
 -- a form that wasn't in the pool came into it, and is negative at the point
-pub record HasNewRival (point : Point) (old new : List Form) : Type 0 where
+pub record HasNewForm (point : Point) (old new : List Form) : Type 0 where
   pub form : Form
   pub is_new : Contains new form
   pub not_old : Contains old form → ⊥
@@ -53,4 +54,4 @@ pub record HasNewRival (point : Point) (old new : List Form) : Type 0 where
 -- what a source answers: nothing came exactly where it accepts the point; else a form that is negative there
 abbrev pub IsSourceAnswer : (Point → Type 0) → Point → List Form → List Form → Asked → Type 0
 IsSourceAnswer accepted point old new Nothing = accepted point × (new ≡ old)
-IsSourceAnswer accepted point old new Added = (accepted point → ⊥) × HasNewRival point old new
+IsSourceAnswer accepted point old new Added = (accepted point → ⊥) × HasNewForm point old new

@@ -2,7 +2,7 @@
 use Rattle.std.specs.Prelude.{◌≡◌, ◌≢◌, ℕ, ◌+◌, ◌^◌, ◌<◌, ◌≤◌, List, [], length, take, Option, Some, None}
 use Rattle.area_graph.specs.declared.Point.{Point}
 use Rattle.design_problem.specs.Forms.{Form, AreMet}
-use Rattle.design_problem.specs.declared.form.CostBox.{CostBox}
+use Rattle.design_problem.specs.declared.boxes.CostBox.{CostBox}
 use Rattle.design_problem.specs.declared.tree.WideAt.{WideAt}
 use Rattle.design_problem.specs.Boxes.{Refutes}
 use Rattle.design_problem.specs.Steps.{IsStepTooWide}
@@ -12,15 +12,16 @@ use Rattle.fraction_table.specs.Tableaus.{IsGoing, wide_at}
 use Rattle.fraction_table.specs.declared.stage.SimplexStop.{SimplexStop}
 use Rattle.fraction_table.specs.declared.stage.SimplexStop.TheVariants.{TooWide as StepTooWide, OutOfMemory}
 use Rattle.exact_simplex.specs.Actives.{TableauState}
-use Rattle.form_search.specs.declared.table.HeldTableau.{HeldTableau}
-use Rattle.form_search.specs.declared.table.Least.{Least}
-use Rattle.form_search.specs.declared.table.Least.TheVariants.{Point as AtPoint, Refuted, Wide}
+use Rattle.form_search.specs.declared.held_tableau.HeldTableau.{HeldTableau}
+use Rattle.form_search.specs.declared.held_tableau.Least.{Least}
+use Rattle.form_search.specs.declared.held_tableau.Least.TheVariants.{Point as AtPoint, Refuted, Wide}
 use Rattle.form_search.specs.declared.relaxation.Relaxed.{Relaxed}
 use Rattle.form_search.specs.declared.relaxation.Relaxed.TheVariants.{Accepted, Refuted as NoneIsMet, Wide as TooWide}
 use Rattle.form_search.specs.Points.{IsLeastOf}
-use Rattle.form_search.specs.Turns.{HasNew}
+use Rattle.form_search.specs.NextEntries.{HasNew}
 
--- A tableau in n variables that holds the first forms of the pool; where a step has stopped it, maybe one more than it counts.
+-- A tableau in n variables that holds the first forms of the pool; where a step has stopped it, maybe one more than it
+-- counts.
 pub record IsHeld (top n : ℕ) (forms : List Form) (table : HeldTableau) : Type 0 where
   pub same_top : table.tableau.top ≡ top
   pub noted_top : table.top ≡ top
@@ -52,7 +53,8 @@ pub record KeepsRows (old new : TableauState) : Type 0 where
   pub costs : new.costs ≡ old.costs
   pub rows : new.rows ≡ old.rows
 
--- so does one that is kept, with what it was started for
+-- a held tableau keeps its rows, how many forms it holds, and for which size of numbers and how many variables it was
+-- started
 pub record KeepsForms (old new : HeldTableau) : Type 0 where
   pub tableau : KeepsRows old.tableau new.tableau
   pub held : new.held ≡ old.held
@@ -82,7 +84,8 @@ abbrev pub IsStepTold : CostBox → List Form → TableauState → SimplexStop �
 IsStepTold box forms tableau (StepTooWide wide) = IsStepTooWide tableau.top box tableau.rows (wide_at wide tableau.basis)
 IsStepTold box forms tableau OutOfMemory = Unit {0}
 
--- what the relaxation of a box comes to: its least accepted point, multipliers that refute it, or a step that is too wide
+-- what the relaxation of a box comes to: its least accepted point, multipliers that refute it, or a step that is too
+-- wide
 abbrev pub IsRelaxation : (Point → Type 0) → ℕ → CostBox → List Form → Point → Relaxed → Type 0
 IsRelaxation accepted top box forms point Accepted = IsLeastOf accepted box point
 IsRelaxation accepted top box forms point (NoneIsMet parts) = RefutesBy box forms parts

@@ -2,27 +2,27 @@
 ghost use Rattle.std.specs.Prelude.{◌≡◌, ◌≢◌, ℕ, ◌<◌, List, length, slice_get, Some, All, IfOk, IfSome, OnOk};
 ghost use Rattle.area_graph.specs.declared.Point.{Point};
 ghost use Rattle.area_graph.specs.Costs.{at_costs};
-ghost use Rattle.design_problem.specs.declared.form.CostBox.{CostBox};
+ghost use Rattle.design_problem.specs.declared.boxes.CostBox.{CostBox};
 ghost use Rattle.design_problem.specs.declared.tree.Entry.TheVariants.{Split};
 ghost use Rattle.design_problem.specs.declared.tree.Side.{Side};
 ghost use Rattle.design_problem.specs.Forms.{Form};
 ghost use Rattle.design_problem.specs.Boxes.{IsInBox, IsPointOf};
 ghost use Rattle.design_problem.specs.Earnest.{IsLeastPoint};
 ghost use Rattle.design_problem.specs.OpenPlaces.{first_place};
-ghost use Rattle.form_search.specs.Advised.{AreAskedAt, AreAskedNext};
+ghost use Rattle.form_search.specs.AdvisorsAsked.{AreAskedAt, AreAskedNext};
 ghost use Rattle.form_search.specs.Calls.{AreInStep, Leaves};
 ghost use Rattle.form_search.specs.Sources.{SameFor, SameSource};
 ghost use Rattle.form_search.specs.Points.{AreCostsOf, IsCostsBox, IsFractional, IsLeastOf, IsIntegralPoint};
-ghost use Rattle.form_search.specs.Turns.{IsDesk, IsNextStep, IsSplitAt};
+ghost use Rattle.form_search.specs.NextEntries.{IsDesk, IsNextStep, IsSplitAt};
 
 use crate::candidates::candidates_of;
-use crate::next_entry::{Desk, Next, halved};
+use crate::costs_of_points::{are_values_accepted, is_whole, value_costs, whole_costs};
+use crate::desk::{Desk, Next, halved};
 use crate::one_point::{at_one_point, is_one_point};
-use crate::points::{are_values_accepted, is_whole, value_costs, whole_costs};
 use crate::propagation::propagated;
 use crate::relaxation::{Relaxed, relax};
 use crate::watch::Watch;
-use crate::{FormPool, RowSource};
+use crate::{FormPool, FormSource};
 use area_graph::Point;
 use cost_base::OutOfMemory;
 use cut_advisors::{Advisor, Candidate, choose};
@@ -31,7 +31,7 @@ use std::alloc::Global;
 
 /// Costs of the box that the least accepted point gives: its values over the scale where these are whole; else the
 /// values themselves, where they are accepted as costs.
-fn costs_there<S: RowSource>(
+fn costs_there<S: FormSource>(
     alloc: Global,
     source: &mut S,
     costs: &CostBox,
@@ -49,7 +49,8 @@ fn costs_there<S: RowSource>(
     // The point is as before, and the source accepts the same points with the same forms.
     ensures point { point.new ≡ point.old }
     ensures in_step { SameFor (S.in_step source.old) (S.in_step source.new) }
-    ensures same { SameSource S.count S.accepted S.true_form S.candidates source.old source.new }
+    ensures same { SameSource S.count S.accepted S.true_form S.possible_forms source.old
+        source.new }
 {
     if is_whole(point) {
         Ok(Some(whole_costs(alloc, point)?))
@@ -63,8 +64,8 @@ fn costs_there<S: RowSource>(
 /// The Split at one of the candidates.
 fn split_at(candidates: &[Candidate], place: usize) -> Entry
     requires { place < length candidates.now }
-    ensures choice { (choice : Candidate) × (slice_get candidates.now place ≡ Some choice) ×
-        (result ≡ Split choice.var choice.floor) }
+    ensures candidate { (candidate : Candidate) × (slice_get candidates.now place ≡ Some candidate)
+        × (result ≡ Split candidate.var candidate.floor) }
     ensures fractional { (costs : CostBox) (point : Point) → All (IsFractional costs point)
         candidates.now → IsSplitAt costs point result }
 {
@@ -96,7 +97,7 @@ fn split_there(
 }
 
 /// What comes next at the least accepted point of the box, which is on the desk: costs that are accepted, or a Split.
-fn at_least_point<S: RowSource>(
+fn at_least_point<S: FormSource>(
     alloc: Global,
     source: &mut S,
     advisors: &mut Vec<Box<dyn Advisor>>,
@@ -115,7 +116,8 @@ fn at_least_point<S: RowSource>(
     // The desk is as before, and the source accepts the same points with the same forms.
     ensures desk { desk.new ≡ desk.old }
     ensures in_step { SameFor (S.in_step source.old) (S.in_step source.new) }
-    ensures same { SameSource S.count S.accepted S.true_form S.candidates source.old source.new }
+    ensures same { SameSource S.count S.accepted S.true_form S.possible_forms source.old
+        source.new }
 
     // The advisors are asked for a Split at the least accepted point, and for nothing else.
     ensures asked { AreAskedNext ⟦<dyn Advisor as Advisor>⟧ (λ b. b.vtable) (λ b. state b)
@@ -130,7 +132,7 @@ fn at_least_point<S: RowSource>(
 
 /// What comes next at a box of more than one point, by its relaxation: costs that are accepted, a Split, a Refute, or a
 /// Halve.
-fn at_box<S: RowSource>(
+fn at_box<S: FormSource>(
     source: &mut S,
     pool: &mut FormPool,
     advisors: &mut Vec<Box<dyn Advisor>>,
@@ -138,7 +140,7 @@ fn at_box<S: RowSource>(
     desk: &mut Desk,
 ) -> Result<Next, OutOfMemory>
     // The source is in step with the pool, and the box of costs has more than one point.
-    requires in_step { AreInStep S.RowSource source.old pool.old }
+    requires in_step { AreInStep S.FormSource source.old pool.old }
     requires ranges { IsCostsBox (S.count source.old) costs.now }
     requires more { costs.now.low ≢ costs.now.high }
     requires desk { IsDesk desk.old.top (S.count source.old) desk.old }
@@ -150,7 +152,7 @@ fn at_box<S: RowSource>(
     ensures desk { OnOk result (IsDesk desk.old.top (S.count source.old) desk.new) }
 
     // Only true forms came to the pool, and unless memory is wanting the source is in step with it.
-    ensures left { Leaves S.RowSource (OnOk result) source.old source.new pool.old pool.new }
+    ensures left { Leaves S.FormSource (OnOk result) source.old source.new pool.old pool.new }
 
     // The advisors are asked for a Split at the least accepted point, and for nothing else.
     ensures asked { AreAskedNext ⟦<dyn Advisor as Advisor>⟧ (λ b. b.vtable) (λ b. state b)
@@ -166,7 +168,7 @@ fn at_box<S: RowSource>(
 
 /// What comes next at the open box of a tree: the entry of the first form that has something to say; else what its one
 /// point tells; else what its relaxation tells.
-pub(crate) fn next_at<S: RowSource>(
+pub(crate) fn next_at<S: FormSource>(
     source: &mut S,
     pool: &mut FormPool,
     advisors: &mut Vec<Box<dyn Advisor>>,
@@ -174,7 +176,7 @@ pub(crate) fn next_at<S: RowSource>(
     desk: &mut Desk,
 ) -> Result<Next, OutOfMemory>
     // The source is in step with the pool, and the tree has an open box of costs from 1 on.
-    requires in_step { AreInStep S.RowSource source.old pool.old }
+    requires in_step { AreInStep S.FormSource source.old pool.old }
     requires open { 0 < length tree.now.places }
     requires ranges { IsCostsBox (S.count source.old) (first_place tree.now.places).box }
     requires desk { IsDesk desk.old.top (S.count source.old) desk.old }
@@ -185,7 +187,7 @@ pub(crate) fn next_at<S: RowSource>(
     ensures desk { OnOk result (IsDesk desk.old.top (S.count source.old) desk.new) }
 
     // Only true forms came to the pool, and unless memory is wanting the source is in step with it.
-    ensures left { Leaves S.RowSource (OnOk result) source.old source.new pool.old pool.new }
+    ensures left { Leaves S.FormSource (OnOk result) source.old source.new pool.old pool.new }
 
     // The advisors are asked for a Split at the least accepted point, and for nothing else.
     ensures asked { AreAskedNext ⟦<dyn Advisor as Advisor>⟧ (λ b. b.vtable) (λ b. state b)

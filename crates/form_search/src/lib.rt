@@ -5,19 +5,19 @@
 
 mod at_box;
 mod candidates;
+mod costs_of_points;
+mod desk;
 mod found;
-mod next_entry;
+mod held_tableau;
 mod one_point;
-mod points;
 mod pool;
 mod propagation;
 mod relaxation;
 mod searching;
 mod source;
-mod table;
 mod watch;
 
 pub use found::Found;
 pub use pool::FormPool;
 pub use searching::search;
-pub use source::{Asked, RowSource};
+pub use source::{Asked, FormSource};

@@ -3,12 +3,12 @@ ghost use Rattle.std.specs.Prelude.{◌≡◌, pos, ◌≤ℤ◌, length, All, I
 ghost use Rattle.design_problem.specs.Boxes.{greatest};
 ghost use Rattle.form_search.specs.Calls.{AreInStep, Leaves};
 ghost use Rattle.form_search.specs.Points.{IsCostsBox};
-ghost use Rattle.form_search.specs.Turns.{IsNextOfPoint};
+ghost use Rattle.form_search.specs.NextEntries.{IsNextOfPoint};
 
-use crate::next_entry::Next;
-use crate::points::{low_costs, put_costs};
+use crate::costs_of_points::{low_costs, put_costs};
+use crate::desk::Next;
 use crate::propagation::{first_negative, refute_by};
-use crate::{Asked, FormPool, RowSource};
+use crate::{Asked, FormPool, FormSource};
 use area_graph::Point;
 use cost_base::OutOfMemory;
 use design_problem::CostBox;
@@ -21,14 +21,14 @@ pub(crate) fn is_one_point(costs: &CostBox) -> bool
 }
 
 /// Asks the source at a box of one point, where each form of the pool is at least 0.
-fn ask_there<S: RowSource>(
+fn ask_there<S: FormSource>(
     source: &mut S,
     pool: &mut FormPool,
     costs: &CostBox,
     point: &mut Point,
 ) -> Result<Next, OutOfMemory>
     // The source is in step with the pool, whose forms are at least 0 at the one point of the box.
-    requires in_step { AreInStep S.RowSource source.old pool.old }
+    requires in_step { AreInStep S.FormSource source.old pool.old }
     requires ranges { IsCostsBox (S.count source.old) costs.now }
     requires one { costs.now.low ≡ costs.now.high }
     requires met { All (λ form. pos 0 ≤ℤ greatest form costs.now) pool.old }
@@ -39,7 +39,7 @@ fn ask_there<S: RowSource>(
     ensures places { length point.new.values ≡ length point.old.values }
 
     // Only true forms came to the pool, and unless memory is wanting the source is in step with it.
-    ensures left { Leaves S.RowSource (OnOk result) source.old source.new pool.old pool.new }
+    ensures left { Leaves S.FormSource (OnOk result) source.old source.new pool.old pool.new }
 {
     put_costs(point, costs);
     match source.ask(point, pool)? {
@@ -49,14 +49,14 @@ fn ask_there<S: RowSource>(
 }
 
 /// What comes next at a box of one point: a form refutes it, the source accepts it, or new forms come.
-pub(crate) fn at_one_point<S: RowSource>(
+pub(crate) fn at_one_point<S: FormSource>(
     source: &mut S,
     pool: &mut FormPool,
     costs: &CostBox,
     point: &mut Point,
 ) -> Result<Next, OutOfMemory>
     // The source is in step with the pool, and the box of costs has one point.
-    requires in_step { AreInStep S.RowSource source.old pool.old }
+    requires in_step { AreInStep S.FormSource source.old pool.old }
     requires ranges { IsCostsBox (S.count source.old) costs.now }
     requires one { costs.now.low ≡ costs.now.high }
     requires places { length point.old.values ≡ S.count source.old }
@@ -66,7 +66,7 @@ pub(crate) fn at_one_point<S: RowSource>(
     ensures places { length point.new.values ≡ length point.old.values }
 
     // Only true forms came to the pool, and unless memory is wanting the source is in step with it.
-    ensures left { Leaves S.RowSource (OnOk result) source.old source.new pool.old pool.new }
+    ensures left { Leaves S.FormSource (OnOk result) source.old source.new pool.old pool.new }
 {
     match first_negative(pool.as_slice(), costs) {
         Some(row) => Ok(Next::Entry(refute_by(pool.alloc(), row)?)),

@@ -2,7 +2,7 @@
 ghost use Rattle.std.specs.Prelude.{◌≡◌, ◌++◌, [], ◌∷◌, take, OnOk, OnErr};
 ghost use Rattle.form_search.specs.Tables.{IsHeld, IsTableauKept};
 
-use crate::table::HeldTableau;
+use crate::held_tableau::HeldTableau;
 use cost_base::OutOfMemory;
 use design_problem::Form;
 use std::alloc::Global;

@@ -6,13 +6,13 @@ ghost use Rattle.design_problem.specs.Boxes.{greatest};
 ghost use Rattle.design_problem.specs.Forms.{form_at};
 ghost use Rattle.design_problem.specs.OpenPlaces.{first_place};
 ghost use Rattle.form_search.specs.Points.{IsCostsBox};
-ghost use Rattle.form_search.specs.Turns.{AreFormsOf, IsFormIn, IsNextRow, IsWatch};
+ghost use Rattle.form_search.specs.NextEntries.{AreFormsOf, IsFormIn, IsNextRow, IsWatch};
 
 use crate::FormPool;
 use crate::watch::Watch;
 use bound_propagation::tighten_within;
 use cost_base::OutOfMemory;
-use design_problem::{CostBox, Entry, Form, Parts, TreeBuilder, greatest_over};
+use design_problem::{CostBox, Entry, Form, Multipliers, TreeBuilder, greatest_over};
 use std::alloc::Global;
 
 /// The Refute by one form.
@@ -22,7 +22,7 @@ pub(crate) fn refute_by(alloc: Global, row: usize) -> Result<Entry, OutOfMemory>
     let mut parts = Vec::new(alloc);
     parts.push((row as u64, 1u128))?;
     Ok(Entry::Refute {
-        parts: Parts::from_items(parts),
+        parts: Multipliers::from_items(parts),
     })
 }
 
@@ -37,7 +37,7 @@ pub(crate) fn first_negative(forms: &[Form], costs: &CostBox) -> Option<usize>
     forms.iter().position(|form| greatest_over(form, costs) < 0)
 }
 
-/// What a form says of the open box of a tree: it refutes it, or makes a range smaller. A step at a variable and side
+/// What a form says of the open box of a tree: it refutes it, or makes a range smaller. An entry at a variable and side
 /// that were tightened since the last cut is barred.
 fn entry_of(
     alloc: Global,
@@ -64,17 +64,17 @@ fn entry_of(
     if most < 0 {
         return Ok(Some(refute_by(alloc, row)?));
     }
-    let Some(step) = tighten_within(form, tree.costs(), most) else {
+    let Some(bound) = tighten_within(form, tree.costs(), most) else {
         return Ok(None);
     };
-    if tree.is_tightened(step.var, step.side) {
+    if tree.is_tightened(bound.var, bound.side) {
         watch.bar(row)?;
         return Ok(None);
     }
     Ok(Some(Entry::Tighten {
-        var: step.var,
-        side: step.side,
-        value: step.value,
+        var: bound.var,
+        side: bound.side,
+        value: bound.value,
         row: row as u64,
     }))
 }

@@ -5,13 +5,13 @@ ghost use Rattle.design_problem.specs.Forms.{AreMet};
 ghost use Rattle.form_search.specs.Calls.{AreInStep, Leaves};
 ghost use Rattle.form_search.specs.Points.{IsCostsBox};
 ghost use Rattle.form_search.specs.Tables.{IsRelaxation, IsRelaxedWith, IsRoundTold, StandsAt};
-ghost use Rattle.form_search.specs.Turns.{HasNew};
+ghost use Rattle.form_search.specs.NextEntries.{HasNew};
 
-use crate::table::{HeldTableau, Least, moved};
-use crate::{Asked, FormPool, RowSource};
+use crate::held_tableau::{HeldTableau, Least, moved};
+use crate::{Asked, FormPool, FormSource};
 use area_graph::Point;
 use cost_base::OutOfMemory;
-use design_problem::{CostBox, Parts, WideAt};
+use design_problem::{CostBox, Multipliers, WideAt};
 use wide_fraction::Top;
 
 /// What the relaxation of a box comes to.
@@ -20,20 +20,20 @@ pub(crate) enum Relaxed {
     /// The least accepted point of the box was put in place.
     Accepted,
     /// No point of the box meets the forms, by these multipliers.
-    Refuted(Parts),
+    Refuted(Multipliers),
     /// A step needed too wide a number.
     Wide(WideAt),
 }
 
 /// Asks the source at the least point of the box that meets the pool's forms; None where new forms came.
-fn ask_least<S: RowSource>(
+fn ask_least<S: FormSource>(
     source: &mut S,
     pool: &mut FormPool,
     costs: &CostBox,
     point: &Point,
 ) -> Result<Option<Relaxed>, OutOfMemory>
     // The source is in step with the pool, and the box is one of costs from 1 on.
-    requires in_step { AreInStep S.RowSource source.old pool.old }
+    requires in_step { AreInStep S.FormSource source.old pool.old }
     requires ranges { IsCostsBox (S.count source.old) costs.now }
 
     // The point is the least of the box that meets the pool's forms, of a scale below 2^100.
@@ -46,7 +46,7 @@ fn ask_least<S: RowSource>(
     ensures more { result ≡ Ok None → HasNew pool.old pool.new }
 
     // Only true forms came to the pool, and unless memory is wanting the source is in step with it.
-    ensures left { Leaves S.RowSource (OnOk result) source.old source.new pool.old pool.new }
+    ensures left { Leaves S.FormSource (OnOk result) source.old source.new pool.old pool.new }
 {
     match source.ask(point, pool)? {
         Asked::Nothing => Ok(Some(Relaxed::Accepted)),
@@ -56,7 +56,7 @@ fn ask_least<S: RowSource>(
 
 /// One round: solves the tableau with the pool's forms, and asks the source at its least point; None where
 /// new forms came.
-fn relax_once<S: RowSource>(
+fn relax_once<S: FormSource>(
     source: &mut S,
     pool: &mut FormPool,
     costs: &CostBox,
@@ -64,7 +64,7 @@ fn relax_once<S: RowSource>(
     point: &mut Point,
 ) -> Result<Option<Relaxed>, OutOfMemory>
     // The source is in step with the pool, and the box of costs has a variable at least.
-    requires in_step { AreInStep S.RowSource source.old pool.old }
+    requires in_step { AreInStep S.FormSource source.old pool.old }
     requires ranges { IsCostsBox (S.count source.old) costs.now }
     requires some { 0 < S.count source.old }
 
@@ -78,7 +78,7 @@ fn relax_once<S: RowSource>(
     ensures places { length point.new.values ≡ length point.old.values }
 
     // Only true forms came to the pool, and unless memory is wanting the source is in step with it.
-    ensures left { Leaves S.RowSource (OnOk result) source.old source.new pool.old pool.new }
+    ensures left { Leaves S.FormSource (OnOk result) source.old source.new pool.old pool.new }
 {
     match table.least(pool.alloc(), pool.as_slice(), point)? {
         Least::Point => ask_least(source, pool, costs, point),
@@ -88,7 +88,7 @@ fn relax_once<S: RowSource>(
 }
 
 /// Rounds until no new form comes.
-fn relax_by<S: RowSource>(
+fn relax_by<S: FormSource>(
     source: &mut S,
     pool: &mut FormPool,
     costs: &CostBox,
@@ -96,7 +96,7 @@ fn relax_by<S: RowSource>(
     point: &mut Point,
 ) -> Result<Relaxed, OutOfMemory>
     // The source is in step with the pool, and the box of costs has a variable at least.
-    requires in_step { AreInStep S.RowSource source.old pool.old }
+    requires in_step { AreInStep S.FormSource source.old pool.old }
     requires ranges { IsCostsBox (S.count source.old) costs.now }
     requires some { 0 < S.count source.old }
 
@@ -110,7 +110,7 @@ fn relax_by<S: RowSource>(
     ensures places { length point.new.values ≡ length point.old.values }
 
     // Only true forms came to the pool, and unless memory is wanting the source is in step with it.
-    ensures left { Leaves S.RowSource (OnOk result) source.old source.new pool.old pool.new }
+    ensures left { Leaves S.FormSource (OnOk result) source.old source.new pool.old pool.new }
 {
     'rounds: loop {
         if let Some(relaxed) = relax_once(source, pool, costs, table, point)? {
@@ -120,7 +120,7 @@ fn relax_by<S: RowSource>(
 }
 
 /// Rounds until no new form comes, with a tableau that is kept with the pool then.
-fn relax_with<S: RowSource>(
+fn relax_with<S: FormSource>(
     source: &mut S,
     pool: &mut FormPool,
     costs: &CostBox,
@@ -128,7 +128,7 @@ fn relax_with<S: RowSource>(
     point: &mut Point,
 ) -> Result<Relaxed, OutOfMemory>
     // The source is in step with the pool, and the box of costs has a variable at least.
-    requires in_step { AreInStep S.RowSource source.old pool.old }
+    requires in_step { AreInStep S.FormSource source.old pool.old }
     requires ranges { IsCostsBox (S.count source.old) costs.now }
     requires some { 0 < S.count source.old }
 
@@ -142,7 +142,7 @@ fn relax_with<S: RowSource>(
     ensures places { length point.new.values ≡ length point.old.values }
 
     // Only true forms came to the pool, and unless memory is wanting the source is in step with it.
-    ensures left { Leaves S.RowSource (OnOk result) source.old source.new pool.old pool.new }
+    ensures left { Leaves S.FormSource (OnOk result) source.old source.new pool.old pool.new }
 {
     match relax_by(source, pool, costs, &mut table, point) {
         Ok(relaxed) => {
@@ -159,7 +159,7 @@ fn relax_with<S: RowSource>(
 
 /// Relaxes a box: moves the tableau that is kept with the pool there or starts one, and asks the source at the least
 /// point that meets the pool's forms, until that point is accepted or there is none. The tableau is kept with the pool.
-pub(crate) fn relax<S: RowSource>(
+pub(crate) fn relax<S: FormSource>(
     source: &mut S,
     top: Top,
     pool: &mut FormPool,
@@ -167,7 +167,7 @@ pub(crate) fn relax<S: RowSource>(
     point: &mut Point,
 ) -> Result<Relaxed, OutOfMemory>
     // The source is in step with the pool, and the box of costs has a variable at least.
-    requires in_step { AreInStep S.RowSource source.old pool.old }
+    requires in_step { AreInStep S.FormSource source.old pool.old }
     requires ranges { IsCostsBox (S.count source.old) costs.now }
     requires some { 0 < S.count source.old }
     requires places { length point.old.values ≡ S.count source.old }
@@ -178,7 +178,7 @@ pub(crate) fn relax<S: RowSource>(
     ensures places { length point.new.values ≡ length point.old.values }
 
     // Only true forms came to the pool, and unless memory is wanting the source is in step with it.
-    ensures left { Leaves S.RowSource (OnOk result) source.old source.new pool.old pool.new }
+    ensures left { Leaves S.FormSource (OnOk result) source.old source.new pool.old pool.new }
 {
     let table = moved(pool.alloc(), pool.take_tableau(), costs, top)?;
     relax_with(source, pool, costs, table, point)

@@ -6,15 +6,15 @@ ghost use Rattle.design_problem.specs.Boxes.{IsBox};
 ghost use Rattle.design_problem.specs.Trees.{IsSingleTree, SoundAt};
 ghost use Rattle.design_problem.specs.Earnest.{IsLeastPoint};
 ghost use Rattle.design_problem.specs.OpenPlaces.{first_place, fresh, grown, undones};
-ghost use Rattle.form_search.specs.Advised.{AreAdvised, AreToldNext};
+ghost use Rattle.form_search.specs.AdvisorsAsked.{AreAdvised, AreToldNext};
 ghost use Rattle.form_search.specs.Calls.{AreInStep, Leaves};
 ghost use Rattle.form_search.specs.Finds.{IsSearchResult};
 ghost use Rattle.form_search.specs.Points.{IsCostsBox};
-ghost use Rattle.form_search.specs.Turns.{IsSoundNext, turned};
+ghost use Rattle.form_search.specs.NextEntries.{IsSoundNext, after_round};
 
 use crate::at_box::next_at;
-use crate::next_entry::{Desk, Next};
-use crate::{FormPool, Found, RowSource};
+use crate::desk::{Desk, Next};
+use crate::{FormPool, FormSource, Found};
 use cost_base::{Listed, OutOfMemory};
 use cut_advisors::{Advisor, tell};
 use design_problem::{CostBox, Entry, TreeBuilder};
@@ -33,6 +33,7 @@ fn first_tree(alloc: Global, variables: u32, costs: &CostBox) -> Result<TreeBuil
     ensures ranges { OnOk result (IsCostsBox variables costs.now) }
 {
     let low = costs.low.copy(alloc)?;
+    // For the prover: a copy of the slice, since that each upper end has 16 bits is known once they are read.
     let highs = costs.high.as_slice();
     let high = Listed::from_slice(alloc, highs)?;
     TreeBuilder::start(alloc, CostBox { low, high })
@@ -56,7 +57,7 @@ fn with_told(
 }
 
 /// What a tree comes to by what comes next at its open box: the search goes on, or it ends with what it found.
-fn turn(
+fn round(
     tree: TreeBuilder,
     next: Next,
     nodes: u64,
@@ -65,7 +66,7 @@ fn turn(
     requires open { 0 < length tree.places }
     requires sound { IsSoundNext (first_place tree.places).box next }
     requires whole { IsSingleTree (tree.entries ++ undones (length tree.places)) }
-    ensures outcome { IfOk result (λ outcome. outcome ≡ turned nodes tree next) }
+    ensures outcome { IfOk result (λ outcome. outcome ≡ after_round nodes tree next) }
     ensures told { AreToldNext ⟦<dyn Advisor as Advisor>⟧ (λ b. b.vtable) (λ b. state b) next result
         advisors.old.items advisors.new.items }
 {
@@ -92,7 +93,7 @@ fn turn(
 /// # Errors
 ///
 /// `OutOfMemory`. Then too only true forms came into the pool, at its end.
-pub fn search<S: RowSource>(
+pub fn search<S: FormSource>(
     source: &mut S,
     costs: &CostBox,
     limits: &Limits,
@@ -100,7 +101,7 @@ pub fn search<S: RowSource>(
     advisors: &mut Vec<Box<dyn Advisor>>,
 ) -> Result<Found, OutOfMemory>
     // The source is in step with the pool, and the box is one of costs from 1 on.
-    requires in_step { AreInStep S.RowSource source.old pool.old }
+    requires in_step { AreInStep S.FormSource source.old pool.old }
     requires ranges { IsBox (S.count source.old) costs.now }
     requires lows { All (λ low. 1 ≤ low) costs.now.low }
 
@@ -109,7 +110,7 @@ pub fn search<S: RowSource>(
         limits.now.nodes pool.new costs.now) }
 
     // Only true forms came to the pool, and unless memory is wanting the source is in step with it.
-    ensures left { Leaves S.RowSource (OnOk result) source.old source.new pool.old pool.new }
+    ensures left { Leaves S.FormSource (OnOk result) source.old source.new pool.old pool.new }
 
     // The advisors are asked before each Split and told each entry, along the tree that grows.
     ensures advisors { AreAdvised ⟦<dyn Advisor as Advisor>⟧ (λ b. b.vtable) (λ b. state b)
@@ -121,7 +122,7 @@ pub fn search<S: RowSource>(
     let mut desk = Desk::start(alloc, costs, limits.top)?;
     'boxes: while tree.is_open() {
         let next = next_at(source, pool, advisors, &tree, &mut desk)?;
-        match turn(tree, next, limits.nodes, advisors)? {
+        match round(tree, next, limits.nodes, advisors)? {
             ControlFlow::Continue(longer) => tree = longer,
             ControlFlow::Break(found) => return Ok(found),
         }

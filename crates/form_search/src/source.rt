@@ -19,9 +19,9 @@ pub enum Asked {
 /// Accepts some points, and knows forms that are at least 0 at each of them.
 ///
 /// Its meanings are `count`, the number of its variables; `accepted`, the points that it accepts; `true_form`, the
-/// forms that are true of them; `in_step`, the pools with which its own lists are in step; and `candidates`, a list in
-/// which each true form stands, so there are finitely many.
-pub trait RowSource {
+/// forms that are true of them; `in_step`, the pools with which its own lists are in step; and `possible_forms`, a list
+/// in which each true form stands, so there are finitely many.
+pub trait FormSource {
     ghost use Rattle.std.specs.Prelude.{◌≡◌, ℕ, ◌*◌, ◌<◌, List, map, Contains};
     ghost use Rattle.area_graph.specs.declared.Point.{Point};
     ghost use Rattle.area_graph.specs.Costs.{at_costs};
@@ -36,7 +36,7 @@ pub trait RowSource {
 
     ghost in_step: { Self → List Form → Type 0 };
 
-    ghost candidates: { Self → List Form };
+    ghost possible_forms: { Self → List Form };
 
     /// The number of variables.
     fn variables(&self) -> u32
@@ -61,7 +61,7 @@ pub trait RowSource {
 
         // The source accepts the same points, and on success it is in step with the pool.
         ensures in_step { OnOk result (in_step self.new pool.new) }
-        ensures same { SameSource count accepted true_form candidates self.old self.new };
+        ensures same { SameSource count accepted true_form possible_forms self.old self.new };
 
     /// Whether the point is accepted. Forms of the pool may be negative there. No form is added, and no
     /// memory is taken.
@@ -69,13 +69,13 @@ pub trait RowSource {
         requires point { IsCostPoint (count self.old) point.now }
         ensures answer { IsTrue result ↔ accepted self.old point.now }
         ensures in_step { SameFor (in_step self.old) (in_step self.new) }
-        ensures same { SameSource count accepted true_form candidates self.old self.new };
+        ensures same { SameSource count accepted true_form possible_forms self.old self.new };
 
     ghost true_forms_hold: { (s : Self) (form : Form) → true_form s form →
         IsTrueForm (count s) (accepted s) form };
 
     ghost true_forms_listed: { (s : Self) (form : Form) → true_form s form →
-        Contains (candidates s) form };
+        Contains (possible_forms s) form };
 
     ghost scale_is_free: { (s : Self) (w : List ℕ) (scale : ℕ) → 0 < scale →
         accepted s (scaled w scale) → accepted s (at_costs w) };

@@ -1,16 +1,16 @@
 //! Which forms may still say something about the box at work.
-ghost use Rattle.std.specs.Prelude.{◌≡◌, ℕ, ◌<◌, ◌≤◌, ◌++◌, [], ◌∷◌, length, IfOk, IfSome, OnOk};
+ghost use Rattle.std.specs.Prelude.{◌≡◌, ℕ, ◌<◌, ◌≤◌, length, IfOk, IfSome};
 ghost use Rattle.std.specs.BinaryHeap.{heap_len};
 ghost use Rattle.design_problem.specs.OpenPlaces.{first_place};
-ghost use Rattle.form_search.specs.Turns.{IsWatch};
+ghost use Rattle.form_search.specs.NextEntries.{IsWatch};
 
-use cost_base::OutOfMemory;
+use cost_base::{OutOfMemory, filled_by, push_last};
 use design_problem::{CostBox, Entry, Form, TreeBuilder};
 use std::alloc::Global;
 use std::cmp::Reverse;
 use std::collections::BinaryHeap;
 
-/// The forms of a pool that may say something about the box at work. A form that was looked at without a step leaves
+/// The forms of a pool that may say something about the box at work. A form that was looked at without an entry leaves
 /// them, and comes back where the range of one of its variables changes.
 #[derive(Drop)]
 pub(crate) struct Watch {
@@ -20,7 +20,7 @@ pub(crate) struct Watch {
     pending: Vec<bool>,
     /// The forms that may, the first one on top.
     waiting: BinaryHeap<Reverse<usize>>,
-    /// The forms whose step was barred at the box.
+    /// The forms whose entry was barred at the box.
     barred: Vec<usize>,
     /// The ranges as they were when they were compared last.
     low: Vec<u16>,
@@ -38,32 +38,12 @@ struct Changed {
     is_cut: bool,
 }
 
-/// Puts a thing at the end.
-fn push<T: Drop>(things: &mut Vec<T>, thing: T) -> Result<(), OutOfMemory>
-    ensures { OnOk result (things.new.items ≡ things.old.items ++ thing ∷ []) }
-{
-    Ok(things.push(thing)?)
-}
-
-/// So many empty lists.
-fn empty_lists(alloc: Global, count: usize) -> Result<Vec<Vec<usize>>, OutOfMemory>
-    ensures { IfOk result (λ lists. length lists.items ≡ count) }
-{
-    let mut lists = Vec::new(alloc);
-    for made in 0..count {
-        // For the prover: an invariant names the number, which nothing else reads.
-        let _ = made;
-        push(&mut lists, Vec::new(alloc))?;
-    }
-    Ok(lists)
-}
-
 /// Puts a form's number into the list of a variable.
 fn note(lists: &mut Vec<Vec<usize>>, var: usize, row: usize) -> Result<(), OutOfMemory>
     ensures { length lists.new.items ≡ length lists.old.items }
 {
     if var < lists.len() {
-        push(&mut lists[var], row)
+        push_last(&mut lists[var], row)
     } else {
         Ok(())
     }
@@ -75,6 +55,7 @@ fn wake(
     waiting: &mut BinaryHeap<Reverse<usize>>,
     row: usize,
 ) -> Result<(), OutOfMemory> {
+    // For the prover: each form's number is in range, which no clause says here.
     if let Some(pending) = pending.get_mut(row) {
         if !*pending {
             waiting.push(Reverse(row))?;
@@ -104,7 +85,7 @@ impl Watch {
     {
         let low = costs.low.as_slice().to_vec(alloc)?;
         let high = costs.high.as_slice().to_vec(alloc)?;
-        let forms_of = empty_lists(alloc, costs.low.as_slice().len())?;
+        let forms_of = filled_by(alloc, costs.low.as_slice().len(), || Vec::new(alloc))?;
         Ok(Watch {
             forms_of,
             pending: Vec::new(alloc),
@@ -141,7 +122,7 @@ impl Watch {
         for term in form.terms() {
             self.learn_term(term.var, row)?;
         }
-        push(&mut self.pending, false)?;
+        push_last(&mut self.pending, false)?;
         wake(&mut self.pending, &mut self.waiting, row)
     }
 
@@ -182,7 +163,7 @@ impl Watch {
         requires watch { IsWatch (length costs.now.low) self.old }
         ensures { IsWatch (length costs.now.low) self.new }
     {
-        push(&mut self.changed, Changed { var, is_cut })?;
+        push_last(&mut self.changed, Changed { var, is_cut })?;
         self.look_at(costs, var as usize)
     }
 
@@ -235,7 +216,7 @@ impl Watch {
         Ok(())
     }
 
-    /// Wakes the forms whose step was barred: nothing bars them at a new box.
+    /// Wakes the forms whose entry was barred: nothing bars them at a new box.
     pub(crate) fn release(&mut self) -> Result<(), OutOfMemory>
         ensures { (n : ℕ) → IsWatch n self.old → IsWatch n self.new }
     {
@@ -253,6 +234,7 @@ impl Watch {
     {
         match self.waiting.pop() {
             Some(Reverse(row)) => {
+                // For the prover: the number of a form that waits is in range, which no clause says here.
                 if let Some(pending) = self.pending.get_mut(row) {
                     *pending = false;
                 }
@@ -262,19 +244,19 @@ impl Watch {
         }
     }
 
-    /// The form that was looked at had a step, so it may have more.
+    /// The form that was looked at had an entry, so it may have more.
     pub(crate) fn keep(&mut self, row: usize) -> Result<(), OutOfMemory>
         ensures { (n : ℕ) → IsWatch n self.old → IsWatch n self.new }
     {
         wake(&mut self.pending, &mut self.waiting, row)
     }
 
-    /// The step of the form that was looked at was barred.
+    /// The entry of the form that was looked at was barred.
     pub(crate) fn bar(&mut self, row: usize) -> Result<(), OutOfMemory>
         ensures watch { (n : ℕ) → IsWatch n self.old → IsWatch n self.new }
         ensures waiting { self.new.waiting ≡ self.old.waiting }
     {
-        push(&mut self.barred, row)
+        push_last(&mut self.barred, row)
     }
 
     /// How many forms that were taken in have a coefficient other than 0 for the variable.

@@ -9,12 +9,12 @@ use Rattle.cost_base.proofs.ListLemmas.{length-map-numbers_from, get_or-map-numb
 use Rattle.whole_numbers.specs.Fractions.{Fraction, StandsFor}
 use Rattle.whole_numbers.specs.Lists.{number_at}
 use Rattle.design_problem.specs.declared.form.Form.{Form}
-use Rattle.design_problem.specs.declared.form.CostBox.{CostBox}
+use Rattle.design_problem.specs.declared.boxes.CostBox.{CostBox}
 use Rattle.design_problem.specs.declared.tree.Member.{Member}
 use Rattle.design_problem.specs.declared.tree.Member.TheVariants.{Low, Row}
 use Rattle.design_problem.specs.Basis.{HasEntries, IsBasis, IsFormOf, IsTable, LeadsPositive, column, entry, forms_of, low_member, member_form}
 use Rattle.fraction_table.specs.ValidTables.{IsTableLine, IsTableauOf, high_member, low_forms, members_of_box}
-use Rattle.fraction_rows.proofs.RowLaws.{number_at as number_there}
+use Rattle.fraction_lines.proofs.TableLineLaws.{number_at as number_there}
 use Rattle.fraction_table.proofs.theory.Resolved.{are_entries, stand_length}
 use Rattle.fraction_table.proofs.theory.Units.{long_at, low_numbers}
 use Rattle.fraction_table.proofs.IntegralTurns.{coefficients_long, stand_at}
@@ -97,7 +97,7 @@ low_line top costs rows basis table w v v_in =
     (zip_at (IsTableLine top w.unboxed.common costs rows w.unboxed.lows) (members_of_box costs (length rows)) table v
     (Low 0 0) [] w.unboxed.lines (omega (arith, members_many costs (length rows), v_in)))
 
--- its fractions stand for the numbers of the row of its variable
+-- its fractions stand for the numbers of the line of its variable
 pub low_line_stands : (top : ℕ) (costs : CostBox) (rows : List Form) (basis : List Member)
     (table : List (List Fraction)) (w : IsTableauOf top costs rows basis table) (v place : ℕ) → v < length costs.low →
     place < suc (length costs.low) → (0 < (entry (slice_index_or table v []) place).denominator)

@@ -9,7 +9,7 @@ use Rattle.design_problem.specs.Steps.{IsPivot}
 use Rattle.fraction_table.specs.declared.table.Table.{Table}
 use Rattle.fraction_table.specs.ValidTables.{IsTableau}
 use Rattle.fraction_table.specs.Pivots.{IsBestBelow, IsLeastIn, IsNotAfterInTable, line_at, numbers_of_line, member_at}
-use Rattle.fraction_rows.proofs.RowLaws.{number_at as number_there}
+use Rattle.fraction_lines.proofs.TableLineLaws.{number_at as number_there}
 use Rattle.fraction_table.proofs.theory.TurnedNumbers.{numbers_long}
 use Rattle.fraction_table.proofs.IntegralTurns.{stand_at}
 use Rattle.fraction_table.proofs.Pivots.{line_long, positive_number, whole_line}

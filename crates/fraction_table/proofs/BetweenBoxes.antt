@@ -5,7 +5,7 @@ use Rattle.cost_base.specs.declared.StepName.{StepName}
 use Rattle.whole_numbers.specs.Fractions.{Fraction, numbers_of_step}
 use Rattle.wide_fraction.specs.declared.steps.Wide.{Wide}
 use Rattle.design_problem.specs.declared.form.Form.{Form}
-use Rattle.design_problem.specs.declared.form.CostBox.{CostBox}
+use Rattle.design_problem.specs.declared.boxes.CostBox.{CostBox}
 use Rattle.design_problem.specs.declared.tree.Member.{Member}
 use Rattle.design_problem.specs.declared.tree.Member.TheVariants.{Low, High, Row}
 use Rattle.design_problem.specs.Boxes.{with_high, with_low}
@@ -15,7 +15,7 @@ use Rattle.fraction_table.specs.declared.stage.Stage.TheVariants.{Open}
 use Rattle.fraction_table.specs.Tableaus.{IsShiftStep, IsWideMove, Shift, between, high_shift, low_shift, moved_basis}
 use Rattle.fraction_table.specs.Tableaus.IsShiftStep.{constant, product, sum}
 use Rattle.fraction_table.specs.ValidTables.{held_of}
-use Rattle.fraction_table.specs.Moves.{IsMoved, IsWideShift, KeepsTableRows, high_shift_of, low_shift_of}
+use Rattle.fraction_table.specs.Moves.{IsMoved, IsWideShift, KeepsTableLines, high_shift_of, low_shift_of}
 
 -- one more place of a list is written, after those before it
 set_between : {X : Type 0} (xs ys : List X) (v : ℕ) (d : X) → v < length xs → v < length ys →
@@ -133,7 +133,7 @@ step_from rows basis other shift same _ _ _ (product j f fs there is has) =
 step_from rows basis other shift same _ _ _ (sum j f fs there is has) =
     sum j f fs (ap (λ ms. slice_get ms j) (sym same) ∙ there) is (subst (λ (ms : List Member). HasEntries shift.costs rows ms f fs) same has)
 
-step_of : (old t : Table) (costs : CostBox) (here other : Shift) → KeepsTableRows old t → IsMoved old costs t →
+step_of : (old t : Table) (costs : CostBox) (here other : Shift) → KeepsTableLines old t → IsMoved old costs t →
     here ≡ other → other.costs ≡ costs → (step : StepName) (left right : Fraction) →
     IsShiftStep t.rows.items t.basis.items here step left right →
     IsShiftStep old.rows.items old.basis.items other step left right
@@ -147,7 +147,7 @@ step_of old t costs here other keeps is same over step left right s =
 
 -- a step of a bound's move that is too wide is one of the whole move
 pub low_move : (old t : Table) (costs : CostBox) (v bound : ℕ) (wide : Wide) → AreAlike old.costs costs →
-    v < length old.costs.low → bound ≡ slice_index costs.low v → KeepsTableRows old t →
+    v < length old.costs.low → bound ≡ slice_index costs.low v → KeepsTableLines old t →
     IsMoved old (between old.costs costs v v) t → IsWideShift t (low_shift_of t v bound) wide →
     IsWideMove (held_of old Open) costs
 low_move old t costs v bound wide alike v_in bound_is keeps is w =
@@ -170,7 +170,7 @@ low_move old t costs v bound wide alike v_in bound_is keeps is w =
     }
 
 pub high_move : (old t : Table) (costs : CostBox) (v bound : ℕ) (wide : Wide) → AreAlike old.costs costs →
-    v < length old.costs.low → bound ≡ slice_index costs.high v → KeepsTableRows old t →
+    v < length old.costs.low → bound ≡ slice_index costs.high v → KeepsTableLines old t →
     IsMoved old (between old.costs costs (suc v) v) t → IsWideShift t (high_shift_of t v bound) wide →
     IsWideMove (held_of old Open) costs
 high_move old t costs v bound wide alike v_in bound_is keeps is w =
@@ -195,6 +195,6 @@ high_move old t costs v bound wide alike v_in bound_is keeps is w =
     }
 
 -- what two tables in a row keep
-pub keeps_both : (old t s : Table) → KeepsTableRows old t → KeepsTableRows t s → KeepsTableRows old s
+pub keeps_both : (old t s : Table) → KeepsTableLines old t → KeepsTableLines t s → KeepsTableLines old s
 keeps_both old t s first second =
     record { top = second.top ∙ first.top; rows = second.rows ∙ first.rows; width = second.width ∙ first.width }

@@ -11,11 +11,11 @@ use Rattle.design_problem.specs.Basis.{entry}
 use Rattle.design_problem.specs.Steps.{IsPivot, IsTableStep, IsStepTooWide}
 use Rattle.design_problem.specs.Steps.IsTableStep.{pivot_product}
 use Rattle.fraction_table.specs.declared.table.Table.{Table}
-use Rattle.fraction_rows.specs.TableRows.IsDivideStep.{quotient}
-use Rattle.fraction_rows.specs.Entries.{IsPassing}
+use Rattle.fraction_lines.specs.TableLines.IsDivideStep.{quotient}
+use Rattle.fraction_lines.specs.Entries.{IsPassing}
 use Rattle.fraction_table.specs.Tableaus.{wide_at}
-use Rattle.fraction_rows.specs.Turns.{IsQuotientStepOf}
-use Rattle.fraction_rows.specs.Turns.IsQuotientStepOf.{dividing}
+use Rattle.fraction_lines.specs.Turns.{IsQuotientStepOf}
+use Rattle.fraction_lines.specs.Turns.IsQuotientStepOf.{dividing}
 use Rattle.fraction_table.specs.ValidTables.{IsTableau}
 use Rattle.fraction_table.specs.Pivots.{IsNotAfterInTable, LeadsNoNegative, entries_order, line_at, numbers_of_line, member_at, numbers_in_column, turned_column}
 use Rattle.fraction_table.proofs.Pivots.{entry_number, form_line, line_long, quotients_wide, wide_step}
@@ -47,7 +47,8 @@ pub level_ordered : (t : Table) (line column other : ℕ) → line < length t.li
     AreLevel t line column other (length t.costs.low) → IsNotAfterInTable t line column other
 level_ordered t line column other line_in pivot other_pivot level w a at_column =
     let second = entry_number t w line other line_in other_pivot in
-    subst (λ z. LeadsNoNegative (turned_column a (numbers_in_column (suc other) w.unboxed.lows) z (numbers_in_column (suc column) w.unboxed.lows))) (sym second.1)
+    subst (λ z. LeadsNoNegative (turned_column a (numbers_in_column (suc other) w.unboxed.lows) z (numbers_in_column (suc column) w.unboxed.lows)))
+    (sym second.1)
     (stays_first t w line column other a second.0 (compared t w line column other a second.0 line_in pivot other_pivot at_column second.1) level)
 
 -- the first difference tells which one is
@@ -59,7 +60,8 @@ pub greater_ordered : (t : Table) (line column other v : ℕ) → line < length 
     IsNotAfterInTable t line column other
 greater_ordered t line column other v line_in pivot other_pivot v_in level greater w a at_column =
     let second = entry_number t w line other line_in other_pivot in
-    subst (λ z. LeadsNoNegative (turned_column a (numbers_in_column (suc other) w.unboxed.lows) z (numbers_in_column (suc column) w.unboxed.lows))) (sym second.1)
+    subst (λ z. LeadsNoNegative (turned_column a (numbers_in_column (suc other) w.unboxed.lows) z (numbers_in_column (suc column) w.unboxed.lows)))
+    (sym second.1)
     (less_first t w line column other a second.0 v (compared t w line column other a second.0 line_in pivot other_pivot at_column second.1) v_in level greater)
 
 pub less_ordered : (t : Table) (line column other v : ℕ) → line < length t.lines.items →
@@ -70,7 +72,8 @@ pub less_ordered : (t : Table) (line column other v : ℕ) → line < length t.l
     IsNotAfterInTable t line other column
 less_ordered t line column other v line_in pivot other_pivot v_in level less w b at_other =
     let first = entry_number t w line column line_in pivot in
-    subst (λ z. LeadsNoNegative (turned_column b (numbers_in_column (suc column) w.unboxed.lows) z (numbers_in_column (suc other) w.unboxed.lows))) (sym first.1)
+    subst (λ z. LeadsNoNegative (turned_column b (numbers_in_column (suc column) w.unboxed.lows) z (numbers_in_column (suc other) w.unboxed.lows)))
+    (sym first.1)
     (other_first t w line column other first.0 b v (compared t w line column other first.0 b line_in pivot other_pivot first.1 at_other) v_in level less)
 
 -- the steps of a comparison are steps of the basis

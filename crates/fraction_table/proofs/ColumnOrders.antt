@@ -13,8 +13,8 @@ use Rattle.design_problem.specs.Basis.{entry, member_form}
 use Rattle.fraction_table.specs.declared.table.Table.{Table}
 use Rattle.fraction_table.specs.ValidTables.{IsTableau}
 use Rattle.fraction_table.specs.Pivots.{LeadsNoNegative, entries_order, line_at, numbers_of_line, member_at, numbers_in_column, turned_column}
-use Rattle.fraction_rows.proofs.ZeroFractions.{divided_lowest, times_lowest}
-use Rattle.fraction_rows.proofs.RowLaws.{number_at as number_there}
+use Rattle.fraction_lines.proofs.ZeroFractions.{divided_lowest, times_lowest}
+use Rattle.fraction_lines.proofs.TableLineLaws.{number_at as number_there}
 use Rattle.fraction_table.proofs.theory.TurnedNumbers.{numbers_long}
 use Rattle.fraction_table.proofs.IntegralTurns.{stand_at}
 use Rattle.fraction_table.proofs.Bases.{low_line_stands, lows_counted}
@@ -48,7 +48,8 @@ column_at a b k j [] u u_in = absurd (omega arith)
 column_at a b k j (ts ∷ lows) zero u_in = refl
 column_at a b k j (ts ∷ lows) (suc u) u_in = column_at a b k j lows u (omega arith)
 
-pub column_long : (a : ℕ) (b : ℤ) (k j : ℕ) (lows : List (List ℤ)) → length (turned_column a (numbers_in_column k lows) b (numbers_in_column j lows)) ≡ length lows
+pub column_long : (a : ℕ) (b : ℤ) (k j : ℕ) (lows : List (List ℤ)) →
+    length (turned_column a (numbers_in_column k lows) b (numbers_in_column j lows)) ≡ length lows
 column_long a b k j [] = refl
 column_long a b k j (ts ∷ lows) = ap suc (column_long a b k j lows)
 

@@ -7,7 +7,7 @@ use Rattle.cost_base.proofs.ListLemmas.{length_zip}
 use Rattle.whole_numbers.proofs.Ring.{var, num, ◌⊕◌, ◌⊗◌, ring, ring_by, nothing, using}
 use Rattle.area_graph.specs.declared.Point.{Point}
 use Rattle.design_problem.specs.declared.form.Form.{Form}
-use Rattle.design_problem.specs.declared.form.CostBox.{CostBox}
+use Rattle.design_problem.specs.declared.boxes.CostBox.{CostBox}
 use Rattle.design_problem.specs.Forms.{dot, value_at, AreMet}
 use Rattle.design_problem.specs.Earnest.{IsLeastPoint, LexLess}
 use Rattle.fraction_table.proofs.Solutions.{high_number}

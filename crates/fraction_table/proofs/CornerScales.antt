@@ -24,12 +24,12 @@ use Rattle.design_problem.specs.Steps.IsTableStep.{corner_multiple, corner_scale
 use Rattle.design_problem.specs.Forms.{AreMet}
 use Rattle.fraction_table.specs.declared.table.Table.{Table}
 use Rattle.fraction_table.specs.Corners.{constant_at, corner_entry, denominators_of, raised_by}
-use Rattle.fraction_rows.specs.Entries.{IsPassing}
+use Rattle.fraction_lines.specs.Entries.{IsPassing}
 use Rattle.fraction_table.specs.Tableaus.{wide_at}
 use Rattle.fraction_table.specs.ValidTables.{IsTableau}
 use Rattle.fraction_table.specs.Pivots.{AreHigh, line_at}
 use Rattle.fraction_table.proofs.Bases.{low_line_stands}
-use Rattle.fraction_rows.proofs.RowLaws.{number_at as number_there}
+use Rattle.fraction_lines.proofs.TableLineLaws.{number_at as number_there}
 use Rattle.fraction_table.proofs.Pivots.{line_long, line_read, lines_long, whole_line, wide_step}
 use Rattle.fraction_table.proofs.Solutions.{corner_fits, corner_long, corner_of, corner_point, counted_lows, first_high}
 use Rattle.fraction_table.proofs.CornerLeast.{corner_is_least}

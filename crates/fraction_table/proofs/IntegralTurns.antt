@@ -10,17 +10,17 @@ use Rattle.whole_numbers.specs.Fractions.{Fraction, StandsFor, divided, whole}
 use Rattle.whole_numbers.specs.Lists.{number_at}
 use Rattle.wide_fraction.proofs.Quotients.{zero_stands}
 use Rattle.design_problem.specs.declared.form.Form.{Form}
-use Rattle.design_problem.specs.declared.form.CostBox.{CostBox}
+use Rattle.design_problem.specs.declared.boxes.CostBox.{CostBox}
 use Rattle.design_problem.specs.declared.tree.Member.{Member}
 use Rattle.design_problem.specs.declared.tree.Member.TheVariants.{Low, High, Row}
 use Rattle.design_problem.specs.Forms.{no_form}
 use Rattle.design_problem.specs.Basis.{IsFormOf, IsMixture, entry, forms_of, member_form}
-use Rattle.fraction_rows.specs.TableRows.{AreTableNumbers, divided_without}
+use Rattle.fraction_lines.specs.TableLines.{AreTableNumbers, divided_without}
 use Rattle.fraction_table.specs.Tableaus.{FitsBox}
-use Rattle.fraction_rows.specs.Turns.{AreTableRows, turned_by, unless_none}
+use Rattle.fraction_lines.specs.Turns.{AreTableLines, turned_by, unless_none}
 use Rattle.fraction_table.specs.ValidTables.{AllLong, IsTableLine, IsTableauOf, Stand, low_forms, members_of_box, number_of_form, numbers_of_form}
 use Rattle.fraction_table.specs.Pivots.{IsLeastColumn}
-use Rattle.fraction_rows.proofs.RowLaws.{number_at as number_there}
+use Rattle.fraction_lines.proofs.TableLineLaws.{number_at as number_there}
 use Rattle.fraction_table.proofs.theory.Resolved.{resolved, stand_length}
 use Rattle.fraction_table.proofs.theory.Blends.{form_mixture}
 use Rattle.fraction_table.proofs.theory.Pivot.{turned}
@@ -53,7 +53,7 @@ by_zero P (pos zero) kept other none some = none refl
 by_zero P (pos (suc n)) kept other none some = some
 by_zero P (negsuc n) kept other none some = some
 
--- a row of fractions after the pivot by the row es on a place
+-- a line of fractions after the pivot by the line es on a place
 abbrev pub turned_line : List Fraction → ℕ → List Fraction → List Fraction
 turned_line es place fs = turned_by fs (divided_without place (entry es place) es 0) place (divided (whole (pos 1)) (entry es place))
 
@@ -98,7 +98,7 @@ pub lines_turned : (top : ℕ) (costs : CostBox) (rows : List Form) (D : ℕ) (l
     (es : List Fraction) (j a : ℕ) (members : List Member) (table : List (List Fraction)) → 0 < D →
     AllLong (suc (length costs.low)) lows → IsPivotOf top costs rows D lows entering es j a →
     AllZip (IsTableLine top D costs rows lows) members table →
-    AreTableRows top (suc (length costs.low)) (map (turned_line es (suc j)) table) →
+    AreTableLines top (suc (length costs.low)) (map (turned_line es (suc j)) table) →
     AllZip (IsTableLine top (D * a) costs rows
     (turned_rows lows (numbers_of_form (length costs.low) D costs.low lows (member_form (length costs.low) rows entering))
     (suc j) D)) members (map (turned_line es (suc j)) table)
@@ -137,7 +137,7 @@ unfoldable pub whole_turned : (top : ℕ) (costs : CostBox) (rows : List Form) (
     (table : List (List Fraction)) (entering : Member) (es : List Fraction) (j a : ℕ)
     (w : IsTableauOf top costs rows basis table) →
     IsPivotOf top costs rows w.unboxed.common w.unboxed.lows entering es j a →
-    AreTableRows top (suc (length costs.low)) (map (turned_line es (suc j)) table) →
+    AreTableLines top (suc (length costs.low)) (map (turned_line es (suc j)) table) →
     IsTableauOf top costs rows (slice_set basis j entering) (map (turned_line es (suc j)) table)
 whole_turned top costs rows basis table entering es j a w p news =
     let n = length costs.low in

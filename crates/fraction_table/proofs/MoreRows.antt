@@ -9,12 +9,12 @@ use Rattle.cost_base.specs.Lists.{numbers_from}
 use Rattle.whole_numbers.specs.Fractions.{Fraction}
 use Rattle.cost_base.proofs.ListLemmas.{numbers_from-push, zip_push}
 use Rattle.design_problem.specs.declared.form.Form.{Form}
-use Rattle.design_problem.specs.declared.form.CostBox.{CostBox}
+use Rattle.design_problem.specs.declared.boxes.CostBox.{CostBox}
 use Rattle.design_problem.specs.declared.tree.Member.{Member}
 use Rattle.design_problem.specs.declared.tree.Member.TheVariants.{Low, High, Row}
 use Rattle.design_problem.specs.Forms.{no_form}
 use Rattle.design_problem.specs.Basis.{IsFormOf, forms_of, low_member, member_form}
-use Rattle.fraction_rows.specs.TableRows.{AreTableNumbers}
+use Rattle.fraction_lines.specs.TableLines.{AreTableNumbers}
 use Rattle.fraction_table.specs.Tableaus.{FitsBox}
 use Rattle.fraction_table.specs.ValidTables.{AreMixtures, IsTableLine, IsTableauOf, Stand, high_member, low_forms, members_of_box, number_of_form, numbers_of_form}
 use Rattle.fraction_table.proofs.StartingTables.{members_are}
@@ -119,6 +119,7 @@ whole_more top costs rows basis table f line w fits numbers stand =
             subst (λ (members : List Member). AllZip (IsTableLine top w.unboxed.common costs more w.unboxed.lows) members
             (table ++ line ∷ [])) (sym (members_more costs (length rows)) ∙ ap (members_of_box costs) counted)
             (zip_push (IsTableLine top w.unboxed.common costs more w.unboxed.lows) (members_of_box costs (length rows)) table (Row (length rows)) line
-            (lines_kept top w.unboxed.common costs rows f w.unboxed.lows (members_of_box costs (length rows)) table (members_are costs rows) w.unboxed.lines) last);
+            (lines_kept top w.unboxed.common costs rows f w.unboxed.lows (members_of_box costs (length rows)) table (members_are costs rows) w.unboxed.lines)
+            last);
       };
     }

@@ -13,13 +13,13 @@ use Rattle.whole_numbers.proofs.Multiples.{plus_stands_over}
 use Rattle.wide_fraction.specs.Widths.{IsWithin}
 use Rattle.wide_fraction.specs.declared.steps.Wide.{Wide}
 use Rattle.design_problem.specs.Basis.{entry}
-use Rattle.fraction_rows.specs.TableRows.{AreTableNumbers, IsTableNumber, nothing}
-use Rattle.fraction_rows.specs.Entries.{IsPassing}
-use Rattle.fraction_rows.specs.Turns.{AreTableRows}
+use Rattle.fraction_lines.specs.TableLines.{AreTableNumbers, IsTableNumber, nothing}
+use Rattle.fraction_lines.specs.Entries.{IsPassing}
+use Rattle.fraction_lines.specs.Turns.{AreTableLines}
 use Rattle.design_problem.specs.declared.tree.Member.{Member}
 use Rattle.fraction_table.specs.Moves.{IsColumnOf, ShiftsWide, put_at, raised_line, shifted_lines}
-use Rattle.fraction_rows.proofs.ZeroFractions.{lowest_zero, nothing_number, nothing_times, times_lowest}
-use Rattle.fraction_rows.proofs.RowLaws.{number_at, rows_at, rows_set, written_numbers}
+use Rattle.fraction_lines.proofs.ZeroFractions.{lowest_zero, nothing_number, nothing_times, times_lowest}
+use Rattle.fraction_lines.proofs.TableLineLaws.{number_at, lines_at, lines_set, written_numbers}
 
 pub plus_lowest : (p q : Fraction) → 0 < p.denominator → 0 < q.denominator → IsLowest (plus p q)
 plus_lowest p q p_positive q_positive =
@@ -75,13 +75,13 @@ raised_numbers top line now fall value first product constant numbers first_is v
 
 -- a line whose constant is made 0
 pub zeroed : (top count : ℕ) (lines : List (List Fraction)) (own : ℕ) (d now : List Fraction) (value : Fraction) →
-    AreTableRows top count lines → own < length lines → value ≡ nothing →
-    now ≡ slice_set (slice_index_or lines own d) 0 value → AreTableRows top count (slice_set lines own now)
+    AreTableLines top count lines → own < length lines → value ≡ nothing →
+    now ≡ slice_set (slice_index_or lines own d) 0 value → AreTableLines top count (slice_set lines own now)
 zeroed top count lines own d now value rows own_in value_is now_is =
-    let here = rows_at top count lines own d rows own_in in
+    let here = lines_at top count lines own d rows own_in in
     let line = slice_index_or lines own d in
     let put : AreTableNumbers top (slice_set line 0 nothing) = none_put line here.1 in
-    rows_set top count lines own now rows (ap length now_is ∙ length-set line 0 value ∙ here.0)
+    lines_set top count lines own now rows (ap length now_is ∙ length-set line 0 value ∙ here.0)
     (subst (AreTableNumbers top) (sym (now_is ∙ ap (λ (q : Fraction). slice_set line 0 q) value_is)) put)
   where
     none_put : (line : List Fraction) → AreTableNumbers top line → AreTableNumbers top (slice_set line 0 nothing)

@@ -10,19 +10,19 @@ use Rattle.whole_numbers.proofs.Ring.{var, num, ◌⊕◌, ◌⊖◌, ◌⊗◌,
 use Rattle.whole_numbers.proofs.FractionLaws.{times_stands}
 use Rattle.whole_numbers.proofs.Multiples.{minus_stands_over, plus_stands_over}
 use Rattle.design_problem.specs.declared.form.Form.{Form}
-use Rattle.design_problem.specs.declared.form.CostBox.{CostBox}
+use Rattle.design_problem.specs.declared.boxes.CostBox.{CostBox}
 use Rattle.design_problem.specs.declared.tree.Member.{Member}
 use Rattle.design_problem.specs.declared.tree.Member.TheVariants.{Low, High, Row}
 use Rattle.design_problem.specs.Boxes.{with_high, with_low}
 use Rattle.design_problem.specs.Forms.{no_form}
 use Rattle.design_problem.specs.Basis.{IsFormOf, entry, member_form}
-use Rattle.fraction_rows.specs.TableRows.{AreTableNumbers, nothing}
+use Rattle.fraction_lines.specs.TableLines.{AreTableNumbers, nothing}
 use Rattle.fraction_table.specs.Tableaus.{moved_member}
 use Rattle.fraction_table.specs.ValidTables.{Stand, number_of_form, numbers_of_form}
 use Rattle.fraction_table.specs.Moves.{fallen, raised_line}
 use Rattle.fraction_table.proofs.theory.MovedNumbers.{IsNumbered, fallen_constant, high_falls, low_falls, lowered_number, lowered_numbered, lowered_rows, raised, raised_constant, raised_numbered, raised_other}
-use Rattle.fraction_rows.proofs.ZeroFractions.{times_lowest}
-use Rattle.fraction_rows.proofs.RowLaws.{number_at as number_there}
+use Rattle.fraction_lines.proofs.ZeroFractions.{times_lowest}
+use Rattle.fraction_lines.proofs.TableLineLaws.{number_at as number_there}
 use Rattle.fraction_table.proofs.theory.TurnedNumbers.{numbers_at, numbers_long}
 use Rattle.fraction_table.proofs.IntegralTurns.{stand_at}
 
@@ -225,7 +225,8 @@ pub other_kept : (n D : ℕ) (low next : List ℕ) (lows news : List (List ℤ))
     (line : List Fraction) (fall : ℤ) → AreMoved D low next lows news bs None fall →
     Stand D line (numbers_of_form n D low lows f) → Stand D line (numbers_of_form n D next news f)
 other_kept n D low next lows news bs f line fall m stand =
-    subst (λ (ms : List ℤ). Stand D line ms) (map-numbers_from-agree (number_of_form D low lows f) (number_of_form D next news f) 0 (suc n) (λ k from k_in. each k)) stand
+    subst (λ (ms : List ℤ). Stand D line ms) (map-numbers_from-agree (number_of_form D low lows f) (number_of_form D next news f) 0 (suc n)
+    (λ k from k_in. each k)) stand
   where
     each : (k : ℕ) → number_of_form D low lows f k ≡ number_of_form D next news f k
     each zero = sym (m.constants f ∙ ring (number_of_form D low lows f 0 ∷ fall ∷ []) (var 0 ⊕ num (pos 0) ⊗ var 1) (var 0) refl)

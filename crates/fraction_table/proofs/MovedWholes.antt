@@ -10,21 +10,21 @@ use Rattle.cost_base.proofs.ListLemmas.{length_zip}
 use Rattle.whole_numbers.specs.Fractions.{Fraction, whole}
 use Rattle.whole_numbers.proofs.Ring.{var, num, ◌⊕◌, ◌⊖◌, ◌⊗◌, ring}
 use Rattle.design_problem.specs.declared.form.Form.{Form}
-use Rattle.design_problem.specs.declared.form.CostBox.{CostBox}
+use Rattle.design_problem.specs.declared.boxes.CostBox.{CostBox}
 use Rattle.design_problem.specs.declared.tree.Member.{Member}
 use Rattle.design_problem.specs.declared.tree.Member.TheVariants.{Low, High, Row}
 use Rattle.design_problem.specs.Forms.{no_form}
 use Rattle.design_problem.specs.Basis.{IsFormOf, forms_of, low_member, member_form}
-use Rattle.fraction_rows.specs.TableRows.{nothing}
+use Rattle.fraction_lines.specs.TableLines.{nothing}
 use Rattle.fraction_table.specs.Tableaus.{moved_basis, moved_member}
-use Rattle.fraction_rows.specs.Turns.{AreTableRows}
+use Rattle.fraction_lines.specs.Turns.{AreTableLines}
 use Rattle.fraction_table.specs.ValidTables.{AllLong, AreMixtures, IsTableLine, IsUnboxed, Stand, high_member, low_forms, members_of_box, number_of_form, numbers_of_form}
 use Rattle.fraction_table.specs.Moves.{IsColumnOf, fallen, put_at, raised_line, shifted_lines}
 use Rattle.fraction_table.proofs.Bases.{members_begin}
 use Rattle.fraction_table.proofs.theory.MovedNumbers.{fallen_constant}
 use Rattle.fraction_table.proofs.MovedTables.{AreMoved, IsFall, IsInside, IsLong, fallen_basis, map_none, map_one, other_kept, other_raised, own_lowered, own_zeroed}
 use Rattle.fraction_table.proofs.Pivots.{high_place, members_long, row_place}
-use Rattle.fraction_rows.proofs.RowLaws.{rows_at}
+use Rattle.fraction_lines.proofs.TableLineLaws.{lines_at}
 use Rattle.fraction_table.proofs.theory.Resolved.{stand_length}
 use Rattle.fraction_table.proofs.theory.TurnedNumbers.{numbers_long}
 use Rattle.fraction_table.proofs.StartingTables.{members_are}
@@ -213,7 +213,7 @@ pub record IsMoveOf (top : ℕ) (costs next : CostBox) (rows : List Form) (basis
   pub numbers : AreMoved u.common costs.low next.low u.lows news (forms_of costs rows basis) column fall
   pub own_in : own < length (members_of_box costs (length rows))
   pub own_is : slice_index_or (members_of_box costs (length rows)) own (Low 0 0) ≡ before
-  pub rows_are : AreTableRows top (suc (length costs.low)) (shifted_lines column own (whole fall) table)
+  pub rows_are : AreTableLines top (suc (length costs.low)) (shifted_lines column own (whole fall) table)
 
 -- the numbers of the form of a column
 pub column_own : (top : ℕ) (costs : CostBox) (rows : List Form) (basis : List Member) (table : List (List Fraction))
@@ -223,7 +223,8 @@ pub column_own : (top : ℕ) (costs : CostBox) (rows : List Form) (basis : List 
     × (number_of_form u.common costs.low u.lows (member_form (length costs.low) rows before) (suc j) ≡ pos u.common)
 column_own top costs rows basis table u before j j_in here =
     let form_is = sym (column_form costs rows basis j before j_in here) in (
-      ap (λ (f : Form). number_of_form u.common costs.low u.lows f 0) form_is ∙ u.elsewhere j 0 (omega (arith, j_in, u.count)) (omega arith) (λ h. omega (arith, h)),
+      ap (λ (f : Form). number_of_form u.common costs.low u.lows f 0) form_is ∙
+          u.elsewhere j 0 (omega (arith, j_in, u.count)) (omega arith) (λ h. omega (arith, h)),
       ap (λ (f : Form). number_of_form u.common costs.low u.lows f (suc j)) form_is ∙ u.own j (omega (arith, j_in, u.count)),
     )
 
@@ -303,7 +304,8 @@ lines_moved top costs next rows basis table u news before after fall column own 
     as_long : length (members_of_box costs (length rows)) ≡ length table
     as_long = length_zip (IsTableLine top u.common costs rows u.lows) (members_of_box costs (length rows)) table u.lines
 
-    other_member : (i : ℕ) → i < length (members_of_box costs (length rows)) → i ≢ own → slice_index_or (members_of_box costs (length rows)) i (Low 0 0) ≢ before
+    other_member : (i : ℕ) → i < length (members_of_box costs (length rows)) → i ≢ own →
+        slice_index_or (members_of_box costs (length rows)) i (Low 0 0) ≢ before
     other_member i i_in apart same =
         apart (sym (place_there costs (length rows) i i_in) ∙ ap (place_of (length costs.low)) (same ∙ sym m.own_is)
         ∙ place_there costs (length rows) own m.own_in)
@@ -339,11 +341,12 @@ lines_moved top costs next rows basis table u news before after fall column own 
     line i i_in =
         let member = moved_member next (slice_index_or (members_of_box costs (length rows)) i (Low 0 0)) in
         let now = slice_index_or (shifted_lines column own (whole fall) table) i [] in
-        let here = rows_at top (suc (length costs.low)) (shifted_lines column own (whole fall) table) i [] m.rows_are
+        let here = lines_at top (suc (length costs.low)) (shifted_lines column own (whole fall) table) i [] m.rows_are
         (omega (arith, length_shifted column own (whole fall) table, as_long, i_in)) in
         record {
           numbers = here.1;
-          stand = subst (λ (w : ℕ). Stand u.common now (numbers_of_form w u.common next.low news (member_form w rows member))) (sym m.falls.width) (stand i i_in);
+          stand = subst (λ (w : ℕ). Stand u.common now (numbers_of_form w u.common next.low news (member_form w rows member))) (sym m.falls.width)
+              (stand i i_in);
         }
 
 moved_is : (costs next : CostBox) (rows : List Form) (m : Member) → length next.low ≡ length costs.low →

@@ -17,16 +17,16 @@ use Rattle.whole_numbers.proofs.Sums.{lowest_unique}
 use Rattle.wide_fraction.specs.Widths.{IsWithin}
 use Rattle.wide_fraction.proofs.Quotients.{zero_stands}
 use Rattle.design_problem.specs.declared.form.Form.{Form}
-use Rattle.design_problem.specs.declared.form.CostBox.{CostBox}
+use Rattle.design_problem.specs.declared.boxes.CostBox.{CostBox}
 use Rattle.design_problem.specs.declared.tree.Member.{Member}
 use Rattle.design_problem.specs.declared.tree.Member.TheVariants.{Low, High, Row}
 use Rattle.design_problem.specs.Basis.{IsFormOf, entry}
 use Rattle.design_problem.specs.Steps.{column_part, column_parts, denominators, made_whole, refuting_multipliers, own_multiplier, unless_zero}
-use Rattle.fraction_rows.specs.Entries.{AllNumbers}
-use Rattle.fraction_rows.specs.TableRows.{AreTableNumbers, IsTableNumber}
+use Rattle.fraction_lines.specs.Entries.{AllNumbers}
+use Rattle.fraction_lines.specs.TableLines.{AreTableNumbers, IsTableNumber}
 use Rattle.fraction_table.specs.ValidTables.{Stand}
-use Rattle.fraction_table.specs.Multipliers.{IsMultiplier, columns_numbered, common_of, fractions, fractions_of, numbered, whole_part, whole_parts, wholes}
-use Rattle.fraction_rows.proofs.ZeroFractions.{times_lowest}
+use Rattle.fraction_table.specs.Multipliers.{IsMultiplier, columns_numbered, common_of, fractions, fractions_of, numbered, whole_multiplier, whole_multipliers, wholes}
+use Rattle.fraction_lines.proofs.ZeroFractions.{times_lowest}
 use Rattle.fraction_table.proofs.Solutions.{low_number}
 use Rattle.fraction_table.proofs.MultiplierSums.{AreMade, IsEntry}
 
@@ -223,12 +223,12 @@ made_column D L K d z m p stands whole_is p_is =
 row_made : (D L row : ℕ) (z : ℤ) (q : Fraction) (m : ℤ) → z ≡ q.numerator → 0 < q.denominator → 0 < L →
     q.numerator ≤ℤ pos 0 → StandsFor q m D →
     AllByRecursion (λ part. part.1.denominator ∣ L) (numbered (Row row) (unless_zero z q)) →
-    AllByRecursion (λ part. (pos D *ℤ pos (whole_part L part).1) ≡ neg_ℤ (m *ℤ pos L)) (numbered (Row row) (unless_zero z q))
+    AllByRecursion (λ part. (pos D *ℤ pos (whole_multiplier L part).1) ≡ neg_ℤ (m *ℤ pos L)) (numbered (Row row) (unless_zero z q))
 row_made D L row (pos zero) q m z_is q_positive L_positive low stands divides = tt
 row_made D L row (pos (suc n)) q m z_is q_positive L_positive low stands divides = absurd (omega (arith, ints))
 row_made D L row (negsuc n) q m z_is q_positive L_positive low stands divides =
     let made = made_natural (negated q) L q_positive L_positive divides.0 (subst (λ (z : ℤ). pos 0 <ℤ neg_ℤ z) z_is (omega (arith, ints))) in (
-      made_column D L (L / q.denominator) q.denominator q.numerator m (pos (whole_part L (row, negated q)).1) stands
+      made_column D L (L / q.denominator) q.denominator q.numerator m (pos (whole_multiplier L (row, negated q)).1) stands
           (div-mul_cancel q.denominator divides.0) made.2,
       tt,
     )
@@ -269,7 +269,7 @@ are_made top D L (member ∷ members) (q ∷ qs) (m ∷ ms) same D_positive L_po
 )
 
 -- the line's own part
-pub own_made : (L : ℕ) (r : Member) → 0 < L → AllByRecursion (λ part. pos (whole_part L part).1 ≡ pos L) (numbered r (whole (pos 1) ∷ []))
+pub own_made : (L : ℕ) (r : Member) → 0 < L → AllByRecursion (λ part. pos (whole_multiplier L part).1 ≡ pos L) (numbered r (whole (pos 1) ∷ []))
 own_made L (Low v bound) L_positive = tt
 own_made L (High v bound) L_positive = tt
 own_made L (Row row) L_positive =
@@ -281,7 +281,7 @@ own_made L (Row row) L_positive =
 -- all parts are whole and positive
 pub parts_whole : (top count L : ℕ) (parts : List (ℕ × Fraction)) → 0 < L → AllByRecursion (IsMultiplier top count) parts →
     AllByRecursion (λ part. part.1.denominator ∣ L) parts →
-    AllByRecursion (λ part. (part.0 < count) × (0 < part.1)) (map (whole_part L) parts)
+    AllByRecursion (λ part. (part.0 < count) × (0 < part.1)) (map (whole_multiplier L) parts)
 parts_whole top count L [] L_positive are divide = tt
 parts_whole top count L (part ∷ parts) L_positive are divide = (
   (are.0.row, (made_natural part.1 L are.0.number.lowest.positive L_positive divide.0 are.0.positive).1),
@@ -291,11 +291,11 @@ parts_whole top count L (part ∷ parts) L_positive are divide = (
 -- as fractions they are the multipliers, made whole
 wholes_of : (top count L : ℕ) (parts : List (ℕ × Fraction)) → 0 < L → AllByRecursion (IsMultiplier top count) parts →
     AllByRecursion (λ part. part.1.denominator ∣ L) parts → map (λ q. times q (whole (pos L))) (fractions parts)
-    ≡ wholes (map (whole_part L) parts)
+    ≡ wholes (map (whole_multiplier L) parts)
 wholes_of top count L [] L_positive are divide = refl
 wholes_of top count L (part ∷ parts) L_positive are divide =
     cc ((made_natural part.1 L are.0.number.lowest.positive L_positive divide.0 are.0.positive).0, wholes_of top count L parts L_positive are.1 divide.1)
 
 pub wholes_are : (top count : ℕ) (parts : List (ℕ × Fraction)) → AllByRecursion (IsMultiplier top count) parts →
-    made_whole (fractions parts) ≡ wholes (whole_parts parts)
+    made_whole (fractions parts) ≡ wholes (whole_multipliers parts)
 wholes_are top count parts are = wholes_of top count (common_of parts) parts (common_positive top count parts are) are (common_divides parts)

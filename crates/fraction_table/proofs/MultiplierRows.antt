@@ -4,7 +4,7 @@ use Rattle.std.specs.Prelude.{ℤ, pos, negsuc, ◌+ℤ◌, ◌-ℤ◌, ◌*ℤ�
 use Rattle.std.specs.List.{AllPairs, AllByRecursion}
 use Rattle.std.specs.List.Sorted.{IsNonDecreasingBy, IsPermutation}
 use Rattle.std.proofs.lemmas.Int.{ints}
-use Rattle.std.proofs.lemmas.Bool.{cases_eq}
+use Rattle.std.proofs.lemmas.Bool.{cases_eq, eq-eqb, ne_eqb}
 use Rattle.std.proofs.lemmas.List.Sorted.{sum_by-IsPermutation}
 use Rattle.std.proofs.lemmas.List.Sums.{sum_by-cons}
 use Rattle.cost_base.proofs.ListLemmas.{each_append}
@@ -16,8 +16,7 @@ use Rattle.design_problem.specs.declared.tree.Member.TheVariants.{Low, High, Row
 use Rattle.design_problem.specs.Forms.{form_at, value_for_costs, weighted}
 use Rattle.design_problem.specs.Steps.{unless_zero}
 use Rattle.design_problem.proofs.Weighted.{value-weighted}
-use Rattle.fraction_table.specs.Multipliers.{Different, columns_numbered, numbered, whole_part}
-use Rattle.fraction_rows.proofs.Columns.{other_test, same_test}
+use Rattle.fraction_table.specs.Multipliers.{Different, columns_numbered, numbered, whole_multiplier}
 
 -- no member is the other
 abbrev pub IsApart : Member → List Member → Type 0
@@ -76,11 +75,12 @@ parts_different r q members qs own apart =
     (λ row is. columns_other row members qs (λ k k_in same. own k k_in (same ∙ sym is)))
     (columns_different members qs apart)
 
-whole_other : (L row : ℕ) (parts : List (ℕ × Fraction)) → AllByRecursion (λ p. p.0 ≢ row) parts → AllByRecursion (λ p. p.0 ≢ row) (map (whole_part L) parts)
+whole_other : (L row : ℕ) (parts : List (ℕ × Fraction)) → AllByRecursion (λ p. p.0 ≢ row) parts →
+    AllByRecursion (λ p. p.0 ≢ row) (map (whole_multiplier L) parts)
 whole_other L row [] other = tt
 whole_other L row (part ∷ parts) other = (other.0, whole_other L row parts other.1)
 
-pub whole_different : (L : ℕ) (parts : List (ℕ × Fraction)) → Different parts → Different (map (whole_part L) parts)
+pub whole_different : (L : ℕ) (parts : List (ℕ × Fraction)) → Different parts → Different (map (whole_multiplier L) parts)
 whole_different L [] different = tt
 whole_different L (part ∷ parts) different = (whole_other L part.0 parts different.0, whole_different L parts different.1)
 
@@ -91,7 +91,7 @@ one_of row p = cond (p.0 == row) 1 0
 count_none : (row : ℕ) (ps : List (ℕ × ℕ)) → AllByRecursion (λ p. p.0 ≢ row) ps → sum_by (one_of row) ps ≡ 0
 count_none row [] other = refl
 count_none row (p ∷ ps) other =
-    let none : one_of row p ≡ 0 = ap (λ b. cond b 1 0) (other_test p.0 row other.0) in
+    let none : one_of row p ≡ 0 = ap (λ b. cond b 1 0) (ne_eqb p.0 row other.0) in
     omega (arith, sum_by-cons (one_of row) p ps, none, count_none row ps other.1)
 
 pub count_most : (row : ℕ) (ps : List (ℕ × ℕ)) → Different ps → sum_by (one_of row) ps ≤ 1
@@ -100,17 +100,17 @@ count_most row (p ∷ ps) different =
     elim (cases_eq p.0 row) [
       | inl same ↦
           let none = count_none row ps (subst (λ (n : ℕ). AllByRecursion (λ q. q.0 ≢ n) ps) same different.0) in
-          let one : one_of row p ≡ 1 = ap (λ b. cond b 1 0) (same_test p.0 row same) in
+          let one : one_of row p ≡ 1 = ap (λ b. cond b 1 0) (eq-eqb p.0 row same) in
           omega (arith, sum_by-cons (one_of row) p ps, none, one)
       | inr other ↦
-          let none : one_of row p ≡ 0 = ap (λ b. cond b 1 0) (other_test p.0 row other) in
+          let none : one_of row p ≡ 0 = ap (λ b. cond b 1 0) (ne_eqb p.0 row other) in
           omega (arith, sum_by-cons (one_of row) p ps, none, count_most row ps different.1)
     ]
 
 count_one : (row : ℕ) (ps : List (ℕ × ℕ)) (k : ℕ) (d : ℕ × ℕ) → k < length ps → (slice_index_or ps k d).0 ≡ row → 1 ≤ sum_by (one_of row) ps
 count_one row [] k d k_in there = absurd (omega arith)
 count_one row (p ∷ ps) zero d k_in there =
-    let one : one_of row p ≡ 1 = ap (λ b. cond b 1 0) (same_test p.0 row there) in
+    let one : one_of row p ≡ 1 = ap (λ b. cond b 1 0) (eq-eqb p.0 row there) in
     omega (arith, sum_by-cons (one_of row) p ps, one)
 count_one row (p ∷ ps) (suc k) d k_in there =
     let rest = count_one row ps k d (omega arith) there in
@@ -121,7 +121,7 @@ count_two : (row : ℕ) (ps : List (ℕ × ℕ)) (i j : ℕ) (d : ℕ × ℕ) �
 count_two row [] i j d before j_in first second = absurd (omega arith)
 count_two row (p ∷ ps) i zero d before j_in first second = absurd (omega arith)
 count_two row (p ∷ ps) zero (suc j) d before j_in first second =
-    let one : one_of row p ≡ 1 = ap (λ b. cond b 1 0) (same_test p.0 row first) in
+    let one : one_of row p ≡ 1 = ap (λ b. cond b 1 0) (eq-eqb p.0 row first) in
     let rest = count_one row ps j d (omega arith) second in
     omega (arith, sum_by-cons (one_of row) p ps, one, rest)
 count_two row (p ∷ ps) (suc i) (suc j) d before j_in first second =
@@ -173,7 +173,8 @@ value_split forms w (part ∷ parts) =
     regroup a b c d = omega (arith, ints)
 
 -- The weighted sum of forms doesn't depend on the order of the parts.
-pub value_moved : (forms : List Form) (w : List ℕ) (xs ys : List (ℕ × ℕ)) → IsPermutation xs ys → value_for_costs (weighted forms ys) w ≡ value_for_costs (weighted forms xs) w
+pub value_moved : (forms : List Form) (w : List ℕ) (xs ys : List (ℕ × ℕ)) → IsPermutation xs ys →
+    value_for_costs (weighted forms ys) w ≡ value_for_costs (weighted forms xs) w
 value_moved forms w xs ys moved =
     value_split forms w ys
     ∙ ap (λ (n : ℕ). pos n -ℤ pos (sum_by (lowering forms w) ys)) (sum_by-IsPermutation (raising forms w) xs ys moved)

@@ -6,6 +6,7 @@ use Rattle.std.proofs.lemmas.Int.{fits_signed_from_abs, ints, to_z-of_z, to_z_po
 use Rattle.std.proofs.lemmas.List.{get_or_default, get_or-map, length-map, map-append, take_more}
 use Rattle.std.proofs.lemmas.List.Sums.{fold_more, sum_by-cons}
 use Rattle.std.proofs.lemmas.Option.{slice_get-get_or}
+use Rattle.std.proofs.lemmas.List.Elements.{All-push}
 use Rattle.cost_base.specs.declared.StepName.TheVariants.{Add, Lcm, Mul, Scale}
 use Rattle.whole_numbers.specs.Fractions.{Fraction, lcm, plus, sum_of, times, whole}
 use Rattle.whole_numbers.proofs.FractionLaws.{reduced_lowest}
@@ -15,13 +16,13 @@ use Rattle.wide_fraction.specs.declared.steps.Wide.{Wide}
 use Rattle.wide_fraction.specs.Widths.{IsTop}
 use Rattle.design_problem.specs.Steps.{denominators, lcm_of}
 use Rattle.fraction_table.specs.declared.stage.SimplexStop.TheVariants.{TooWide}
-use Rattle.fraction_rows.specs.Entries.{AllNumbers, IsPassing}
-use Rattle.fraction_table.specs.Multipliers.{IsMultiplierStep, IsTallyStep, IsWideMultiplier, common_of, fractions, whole_part, wholes}
+use Rattle.fraction_lines.specs.Entries.{AllNumbers, IsPassing}
+use Rattle.fraction_table.specs.Multipliers.{IsMultiplierStep, IsTallyStep, IsWideMultiplier, common_of, fractions, whole_multiplier, wholes}
 use Rattle.fraction_table.specs.Multipliers.IsMultiplierStep.{multiple, product}
 use Rattle.fraction_table.specs.Multipliers.IsTallyStep.{sum, scale}
-use Rattle.fraction_rows.specs.TableRows.{IsTableNumber}
+use Rattle.fraction_lines.specs.TableLines.{IsTableNumber}
 use Rattle.fraction_table.proofs.MultiplierColumns.{whole_from}
-use Rattle.fraction_rows.proofs.SmallNumbers.{top_small}
+use Rattle.fraction_lines.proofs.SmallNumbers.{top_small}
 
 -- a number of at most 127 bits is read as it is
 pub read_back : (z : ℤ) → nat_abs z < 2 ^ 127 → to_z w128 (of_z w128 z) ≡ z
@@ -94,17 +95,17 @@ multiple_wide parts k d m z wide k_in m_is z_is wide_is =
 -- one more multiplier that is made whole
 pub made_next : (parts : List (ℕ × Fraction)) (k : ℕ) (d : ℕ × Fraction) (m : ℤ) (made news : List (ℕ × ℕ))
     (q : Fraction) → k < length parts → m ≡ pos (common_of parts) →
-    made ≡ map (whole_part (common_of parts)) (take k parts) → q ≡ times (slice_index_or parts k d).1 (whole m) →
+    made ≡ map (whole_multiplier (common_of parts)) (take k parts) → q ≡ times (slice_index_or parts k d).1 (whole m) →
     news ≡ made ++ ((slice_index_or parts k d).0, nat_abs q.numerator) ∷ [] →
-    news ≡ map (whole_part (common_of parts)) (take (k + 1) parts)
+    news ≡ map (whole_multiplier (common_of parts)) (take (k + 1) parts)
 made_next parts k d m made news q k_in m_is made_is q_is news_is =
     let L = common_of parts in
     let part = slice_index_or parts k d in
     news_is
     ∙ ap (λ (ps : List (ℕ × ℕ)). ps ++ (part.0, nat_abs q.numerator) ∷ []) made_is
-    ∙ ap (λ (p : Fraction). map (whole_part L) (take k parts) ++ (part.0, nat_abs p.numerator) ∷ []) (q_is ∙ ap (λ (x : ℤ). times part.1 (whole x)) m_is)
-    ∙ sym (map-append (whole_part L) (take k parts) (part ∷ []))
-    ∙ ap (map (whole_part L)) (sym (take_more parts k d k_in))
+    ∙ ap (λ (p : Fraction). map (whole_multiplier L) (take k parts) ++ (part.0, nat_abs p.numerator) ∷ []) (q_is ∙ ap (λ (x : ℤ). times part.1 (whole x)) m_is)
+    ∙ sym (map-append (whole_multiplier L) (take k parts) (part ∷ []))
+    ∙ ap (map (whole_multiplier L)) (sym (take_more parts k d k_in))
 
 -- what a push puts, by what was read of the parts
 pub part_put : (parts : List (ℕ × Fraction)) (k : ℕ) (d e : ℕ × Fraction) (olds news : List (ℕ × ℕ)) (size n : ℕ) →
@@ -180,13 +181,7 @@ wide_multiplier top qs wide step passes = (step, passes)
 pub all_more : (top : ℕ) (olds news : List (ℕ × ℕ)) (part : ℕ × ℕ) → news ≡ olds ++ part ∷ [] →
     All (λ p. p.1 ≤ top) olds → part.1 ≤ top → All (λ p. p.1 ≤ top) news
 all_more top olds news part news_are within last =
-    subst (λ (ps : List (ℕ × ℕ)). All (λ p. p.1 ≤ top) ps) (sym news_are) (put olds within)
-  where
-    put : (ps : List (ℕ × ℕ)) → All (λ p. p.1 ≤ top) ps → All (λ p. p.1 ≤ top) (ps ++ part ∷ [])
-    put [] all zero d k_in = last
-    put [] all (suc k) d k_in = absurd (omega arith)
-    put (p ∷ ps) all zero d k_in = all 0 d (omega arith)
-    put (p ∷ ps) all (suc k) d k_in = put ps (λ j e j_in. all (suc j) e (omega arith)) k d (omega arith)
+    subst (λ (ps : List (ℕ × ℕ)). All (λ p. p.1 ≤ top) ps) (sym news_are) (All-push (λ (p : ℕ × ℕ). p.1 ≤ top) olds part within last)
 
 pub scale_wide : (parts : List (ℕ × ℕ)) (so_far : Fraction) (wide : Wide) → so_far ≡ sum_of (wholes parts) →
     wide ≡ record { step = Scale; left = whole so_far.numerator; right = whole (pos (2 ^ 27)) } →

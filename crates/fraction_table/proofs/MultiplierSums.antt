@@ -1,4 +1,4 @@
--- The rows of a stuck form, each times its multiplier, have a negative sum over the box.
+-- The rows of a refuting form, each times its multiplier, have a negative sum over the box.
 use Rattle.std.proofs.Common.{◌≡◌, ℕ, zero, suc, ◌<◌, refl, sym, ◌∙◌, ap, subst, List, [], ◌∷◌, ◌++◌, map, arith}
 use Rattle.std.specs.Prelude.{ℤ, pos, negsuc, ◌+ℤ◌, ◌*ℤ◌, neg_ℤ, ◌<ℤ◌, ◌≤ℤ◌}
 use Rattle.std.specs.List.{AllByRecursion}
@@ -14,7 +14,7 @@ use Rattle.design_problem.specs.Forms.{form_at, value_for_costs, weighted}
 use Rattle.design_problem.specs.Basis.{member_form}
 use Rattle.design_problem.specs.Steps.{unless_zero}
 use Rattle.design_problem.proofs.Weighted.{value-weighted}
-use Rattle.fraction_table.specs.Multipliers.{columns_numbered, numbered, whole_part}
+use Rattle.fraction_table.specs.Multipliers.{columns_numbered, numbered, whole_multiplier}
 use Rattle.fraction_table.proofs.theory.Corner.{sum_low, sum_negative}
 
 -- the values of members' forms at costs, each times its number
@@ -36,7 +36,8 @@ AllHigh n w members = AllByRecursion (IsHigh n w) members
 pub record IsEntry (D multiple : ℕ) (member : Member) (q : Fraction) (m : ℤ) : Type 0 where
   pub none : q.numerator ≡ pos 0 → m ≡ pos 0
   pub low : m ≤ℤ pos 0
-  pub made : AllByRecursion (λ part. (pos D *ℤ pos (whole_part multiple part).1) ≡ neg_ℤ (m *ℤ pos multiple)) (numbered member (unless_zero q.numerator q))
+  pub made : AllByRecursion (λ part. (pos D *ℤ pos (whole_multiplier multiple part).1) ≡ neg_ℤ (m *ℤ pos multiple))
+      (numbered member (unless_zero q.numerator q))
 
 abbrev pub AreMade : ℕ → ℕ → List Member → List Fraction → List ℤ → Type 0
 AreMade D multiple [] qs ms = Unit {0}
@@ -76,42 +77,45 @@ zero_more D L s m v r none rest =
 
 -- a row's column, by the numerator of its entry
 row_column : (D L row : ℕ) (rows : List Form) (w : List ℕ) (z : ℤ) (q : Fraction) (m : ℤ) (rest : List (ℕ × ℕ)) (r : ℤ) → (z ≡ pos 0 → m ≡ pos 0) →
-    AllByRecursion (λ part. (pos D *ℤ pos (whole_part L part).1) ≡ neg_ℤ (m *ℤ pos L)) (numbered (Row row) (unless_zero z q)) →
+    AllByRecursion (λ part. (pos D *ℤ pos (whole_multiplier L part).1) ≡ neg_ℤ (m *ℤ pos L)) (numbered (Row row) (unless_zero z q)) →
     ((pos D *ℤ value_for_costs (weighted rows rest) w) +ℤ (pos L *ℤ r)) ≤ℤ pos 0 →
-    ((pos D *ℤ value_for_costs (weighted rows (map (whole_part L) (numbered (Row row) (unless_zero z q)) ++ rest)) w)
+    ((pos D *ℤ value_for_costs (weighted rows (map (whole_multiplier L) (numbered (Row row) (unless_zero z q)) ++ rest)) w)
     +ℤ (pos L *ℤ ((m *ℤ value_for_costs (form_at rows row) w) +ℤ r))) ≤ℤ pos 0
 row_column D L row rows w (pos zero) q m rest r none made below =
     zero_more D L (value_for_costs (weighted rows rest) w) m (value_for_costs (form_at rows row) w) r (none refl) below
 row_column D L row rows w (pos (suc k)) q m rest r none made below =
     subst (λ (z : ℤ). ((pos D *ℤ z) +ℤ (pos L *ℤ ((m *ℤ value_for_costs (form_at rows row) w) +ℤ r))) ≤ℤ pos 0)
-    (sym (value-weighted rows (whole_part L (row, negated q)) rest w))
-    (row_more D L (pos (whole_part L (row, negated q)).1) (value_for_costs (weighted rows rest) w) m (value_for_costs (form_at rows row) w) r made.0 below)
+    (sym (value-weighted rows (whole_multiplier L (row, negated q)) rest w))
+    (row_more D L (pos (whole_multiplier L (row, negated q)).1) (value_for_costs (weighted rows rest) w) m (value_for_costs (form_at rows row) w) r made.0
+    below)
 row_column D L row rows w (negsuc k) q m rest r none made below =
     subst (λ (z : ℤ). ((pos D *ℤ z) +ℤ (pos L *ℤ ((m *ℤ value_for_costs (form_at rows row) w) +ℤ r))) ≤ℤ pos 0)
-    (sym (value-weighted rows (whole_part L (row, negated q)) rest w))
-    (row_more D L (pos (whole_part L (row, negated q)).1) (value_for_costs (weighted rows rest) w) m (value_for_costs (form_at rows row) w) r made.0 below)
+    (sym (value-weighted rows (whole_multiplier L (row, negated q)) rest w))
+    (row_more D L (pos (whole_multiplier L (row, negated q)).1) (value_for_costs (weighted rows rest) w) m (value_for_costs (form_at rows row) w) r made.0
+    below)
 
 -- The rows' sum, D-fold, and that of all members, times the multiple, are together at most 0.
 pub columns_sum : (D L n : ℕ) (rows : List Form) (w : List ℕ) (members : List Member) (qs : List Fraction)
     (ms : List ℤ) → AllHigh n w members → AreMade D L members qs ms →
-    ((pos D *ℤ value_for_costs (weighted rows (map (whole_part L) (columns_numbered members qs))) w) +ℤ (pos L *ℤ member_sum n rows w ms members)) ≤ℤ pos 0
+    ((pos D *ℤ value_for_costs (weighted rows (map (whole_multiplier L) (columns_numbered members qs))) w) +ℤ (pos L *ℤ member_sum n rows w ms members)) ≤ℤ pos
+    0
 columns_sum D L n rows w [] qs [] high made = omega (arith, ints)
 columns_sum D L n rows w [] qs (m ∷ ms) high made = omega (arith, ints)
 columns_sum D L n rows w (member ∷ members) [] ms high made = absurd made
 columns_sum D L n rows w (member ∷ members) (q ∷ qs) [] high made = absurd made
 columns_sum D L n rows w (Low v bound ∷ members) (q ∷ qs) (m ∷ ms) high made =
-    bound_more D L (value_for_costs (weighted rows (map (whole_part L) (columns_numbered members qs))) w) m
+    bound_more D L (value_for_costs (weighted rows (map (whole_multiplier L) (columns_numbered members qs))) w) m
     (value_for_costs (member_form n rows (Low v bound)) w) (member_sum n rows w ms members) made.0.low high.0
     (columns_sum D L n rows w members qs ms high.1 made.1)
 columns_sum D L n rows w (High v bound ∷ members) (q ∷ qs) (m ∷ ms) high made =
-    bound_more D L (value_for_costs (weighted rows (map (whole_part L) (columns_numbered members qs))) w) m
+    bound_more D L (value_for_costs (weighted rows (map (whole_multiplier L) (columns_numbered members qs))) w) m
     (value_for_costs (member_form n rows (High v bound)) w) (member_sum n rows w ms members) made.0.low high.0
     (columns_sum D L n rows w members qs ms high.1 made.1)
 columns_sum D L n rows w (Row row ∷ members) (q ∷ qs) (m ∷ ms) high made =
     subst (λ (ps : List (ℕ × ℕ)). ((pos D *ℤ value_for_costs (weighted rows ps) w)
     +ℤ (pos L *ℤ ((m *ℤ value_for_costs (form_at rows row) w) +ℤ member_sum n rows w ms members))) ≤ℤ pos 0)
-    (sym (map-append (whole_part L) (numbered (Row row) (unless_zero q.numerator q)) (columns_numbered members qs)))
-    (row_column D L row rows w q.numerator q m (map (whole_part L) (columns_numbered members qs)) (member_sum n rows w ms members) made.0.none made.0.made
+    (sym (map-append (whole_multiplier L) (numbered (Row row) (unless_zero q.numerator q)) (columns_numbered members qs)))
+    (row_column D L row rows w q.numerator q m (map (whole_multiplier L) (columns_numbered members qs)) (member_sum n rows w ms members) made.0.none made.0.made
     (columns_sum D L n rows w members qs ms high.1 made.1))
 
 -- the form's own part, and the equation of the form at the costs: where it is a row, and where it is a bound
@@ -138,26 +142,26 @@ bound_negative D L v s m r L_positive below high equation rest =
     both : (a b c d : ℤ) → a <ℤ pos 0 → b ≤ℤ pos 0 → pos 0 ≤ℤ c → (d +ℤ c) ≡ (a +ℤ b) → d <ℤ pos 0
     both a b c d first second third same = omega (arith, ints)
 
--- All parts of a stuck form have a negative sum, whether it is a row or a bound.
+-- All parts of a refuting form have a negative sum, whether it is a row or a bound.
 pub parts_negative : (D L n : ℕ) (rows : List Form) (w : List ℕ) (r : Member) (basis : List Member) (qs : List Fraction)
     (m : ℤ) (ms : List ℤ) → 0 < L → m <ℤ pos 0 → IsHigh n w r → AllHigh n w basis → AreMade D L basis qs ms →
-    AllByRecursion (λ part. pos (whole_part L part).1 ≡ pos L) (numbered r (whole (pos 1) ∷ [])) →
+    AllByRecursion (λ part. pos (whole_multiplier L part).1 ≡ pos L) (numbered r (whole (pos 1) ∷ [])) →
     (pos D *ℤ value_for_costs (member_form n rows r) w) ≡ (m +ℤ member_sum n rows w ms basis) →
-    value_for_costs (weighted rows (map (whole_part L) (numbered r (whole (pos 1) ∷ []) ++ columns_numbered basis qs))) w <ℤ pos 0
+    value_for_costs (weighted rows (map (whole_multiplier L) (numbered r (whole (pos 1) ∷ []) ++ columns_numbered basis qs))) w <ℤ pos 0
 parts_negative D L n rows w (Low v bound) basis qs m ms L_positive below high all_high made own equation =
     bound_negative D L (value_for_costs (member_form n rows (Low v bound)) w)
-    (value_for_costs (weighted rows (map (whole_part L) (columns_numbered basis qs))) w) m (member_sum n rows w ms basis)
+    (value_for_costs (weighted rows (map (whole_multiplier L) (columns_numbered basis qs))) w) m (member_sum n rows w ms basis)
     L_positive below high equation
     (columns_sum D L n rows w basis qs ms all_high made)
 parts_negative D L n rows w (High v bound) basis qs m ms L_positive below high all_high made own equation =
     bound_negative D L (value_for_costs (member_form n rows (High v bound)) w)
-    (value_for_costs (weighted rows (map (whole_part L) (columns_numbered basis qs))) w) m (member_sum n rows w ms basis)
+    (value_for_costs (weighted rows (map (whole_multiplier L) (columns_numbered basis qs))) w) m (member_sum n rows w ms basis)
     L_positive below high equation
     (columns_sum D L n rows w basis qs ms all_high made)
 parts_negative D L n rows w (Row row) basis qs m ms L_positive below high all_high made own equation =
-    let rest = map (whole_part L) (columns_numbered basis qs) in
+    let rest = map (whole_multiplier L) (columns_numbered basis qs) in
     subst (λ (z : ℤ). z <ℤ pos 0)
-    (sym (value-weighted rows (whole_part L (row, whole (pos 1))) rest w
+    (sym (value-weighted rows (whole_multiplier L (row, whole (pos 1))) rest w
     ∙ ap (λ (z : ℤ). (z *ℤ value_for_costs (form_at rows row) w) +ℤ value_for_costs (weighted rows rest) w) own.0))
     (row_negative D L (value_for_costs (form_at rows row) w) (value_for_costs (weighted rows rest) w) m (member_sum n rows w ms basis) L_positive below equation
     (columns_sum D L n rows w basis qs ms all_high made))

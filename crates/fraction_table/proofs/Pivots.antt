@@ -9,26 +9,26 @@ use Rattle.cost_base.proofs.ListLemmas.{length-map-numbers_from, get_or-map-numb
 use Rattle.whole_numbers.specs.Fractions.{Fraction, divided, inverse, inverted, whole}
 use Rattle.whole_numbers.specs.Lists.{number_at}
 use Rattle.wide_fraction.specs.declared.steps.Wide.{Wide}
-use Rattle.design_problem.specs.declared.form.CostBox.{CostBox}
+use Rattle.design_problem.specs.declared.boxes.CostBox.{CostBox}
 use Rattle.design_problem.specs.declared.tree.Member.{Member}
 use Rattle.design_problem.specs.declared.tree.Member.TheVariants.{Low, Row}
 use Rattle.design_problem.specs.Basis.{IsFormOf, entry, low_member, member_form}
 use Rattle.design_problem.specs.Steps.{IsPivot, IsTableStep, IsStepTooWide}
 use Rattle.fraction_table.specs.declared.table.Table.{Table}
-use Rattle.fraction_rows.specs.Entries.{IsPassing}
-use Rattle.fraction_rows.specs.TableRows.{IsWideStep, divided_without}
+use Rattle.fraction_lines.specs.Entries.{IsPassing}
+use Rattle.fraction_lines.specs.TableLines.{IsWideStep, divided_without}
 use Rattle.fraction_table.specs.Tableaus.{wide_at}
-use Rattle.fraction_rows.specs.Turns.{AreTableRows, IsQuotientStepOf, IsTurnStep, TurnsWide, turned_by}
+use Rattle.fraction_lines.specs.Turns.{AreTableLines, IsQuotientStepOf, IsTurnStep, TurnsWide, turned_by}
 use Rattle.fraction_table.specs.ValidTables.{IsTableLine, IsTableauOf, IsTableau, high_member, members_of_box, numbers_of_form}
 use Rattle.fraction_table.specs.Pivots.{IsLeastIn, line_at, numbers_of_line, member_at}
 use Rattle.fraction_table.proofs.theory.Resolved.{stand_length}
-use Rattle.fraction_rows.proofs.ZeroFractions.{inverse_positive}
-use Rattle.fraction_rows.proofs.RowLaws.{number_at as number_there, times_not_zero}
+use Rattle.fraction_lines.proofs.ZeroFractions.{inverse_positive}
+use Rattle.fraction_lines.proofs.TableLineLaws.{number_at as number_there, times_not_zero}
 use Rattle.fraction_table.proofs.theory.TurnedNumbers.{numbers_at, numbers_long}
 use Rattle.fraction_table.proofs.IntegralTurns.{IsPivotOf, stand_at, turned_line, whole_turned}
 use Rattle.fraction_table.proofs.Bases.{line_entries, whole_table}
 use Rattle.fraction_table.proofs.StartingTables.{members_are}
-use Rattle.fraction_rows.proofs.PivotSteps.{IsFormLine, quotient_is_step, turn_is_step}
+use Rattle.fraction_lines.proofs.PivotSteps.{IsFormLine, quotient_is_step, turn_is_step}
 use Rattle.fraction_table.proofs.theory.Zips.{zip_at}
 
 -- a line of a whole table is that of its member
@@ -62,12 +62,12 @@ pub line_read : (t : Table) (line : ℕ) (row : List Fraction) → row ≡ slice
 line_read t line row is line_in = is ∙ get_or_default t.lines.items line row [] line_in
 
 -- all lines are of the table's width and numbers
-pub whole_rows : (t : Table) (w : IsTableau t) → AreTableRows t.top (suc (length t.costs.low)) t.lines.items
+pub whole_rows : (t : Table) (w : IsTableau t) → AreTableLines t.top (suc (length t.costs.low)) t.lines.items
 whole_rows t w = fit (members_of_box t.costs (length t.rows.items)) t.lines.items w.unboxed.lines
   where
     fit : (members : List Member) (lines : List (List Fraction)) →
         AllZip (IsTableLine t.top w.unboxed.common t.costs t.rows.items w.unboxed.lows) members lines →
-        AreTableRows t.top (suc (length t.costs.low)) lines
+        AreTableLines t.top (suc (length t.costs.low)) lines
     fit [] [] all = tt
     fit [] (line ∷ lines) all = absurd all
     fit (member ∷ members) [] all = absurd all
@@ -129,17 +129,17 @@ pub turning_wide : (t : Table) (w : IsTableau t) (line column : ℕ) (ts : List 
     IsStepTooWide t.top t.costs t.rows.items (wide_at wide t.basis.items)
 turning_wide t w line column ts inverse line_in pivot ts_are inverse_is wide is =
     let made = is.wide in
-    let turned : IsTurnStep (line_at t is.row)
+    let turned : IsTurnStep (line_at t is.line)
     (divided_without (suc column) (entry (line_at t line) (suc column)) (line_at t line) 0) (suc column)
     (divided (whole (pos 1)) (entry (line_at t line) (suc column))) wide.step wide.left wide.right =
     subst (λ (qs : List Fraction).
-    IsTurnStep (line_at t is.row) qs (suc column) (divided (whole (pos 1)) (entry (line_at t line) (suc column)))
+    IsTurnStep (line_at t is.line) qs (suc column) (divided (whole (pos 1)) (entry (line_at t line) (suc column)))
     wide.step wide.left wide.right) ts_are
-    (subst (λ (q : Fraction). IsTurnStep (line_at t is.row) ts (suc column) q wide.step wide.left wide.right) inverse_is made.0) in
+    (subst (λ (q : Fraction). IsTurnStep (line_at t is.line) ts (suc column) q wide.step wide.left wide.right) inverse_is made.0) in
     wide_step t w wide
     (turn_is_step t.top t.costs t.rows.items t.basis.items (take (length t.costs.low) t.lines.items) (member_at t line)
-    (member_at t is.row) (line_at t line) (line_at t is.row) (suc column) (form_line t w line line_in) pivot
-    (form_line t w is.row is.row_in) wide.step wide.left wide.right turned made.1)
+    (member_at t is.line) (line_at t line) (line_at t is.line) (suc column) (form_line t w line line_in) pivot
+    (form_line t w is.line is.line_in) wide.step wide.left wide.right turned made.1)
     made.1
 
 -- what a positive fraction stands for is positive
@@ -171,7 +171,7 @@ entry_number t w line column line_in pivot =
     positive_number (entry es (suc column)).numerator (number_at (numbers_of_line t w line) (suc column))
     (entry es (suc column)).denominator w.unboxed.common here.lowest.positive w.unboxed.positive stands pivot.above
 
--- the lines, turned by the quotients and the inverse that were made of a row
+-- the lines, turned by the quotients and the inverse that were made of a line
 pub news_turned : (es row qs : List Fraction) (place : ℕ) (inverse : Fraction)
     (news rows lines : List (List Fraction)) → news ≡ map (λ fs. turned_by fs qs place inverse) rows → rows ≡ lines →
     qs ≡ divided_without place (entry row place) row 0 → inverse ≡ divided (whole (pos 1)) (entry row place) →
@@ -206,7 +206,7 @@ pivot_of t w line column a line_in pivot least at_column positive =
 pub pivot_whole : (t : Table) (w : IsTableau t) (line column : ℕ) (news : List (List Fraction)) →
     line < length t.lines.items → IsPivot t.basis.items (line_at t line) (suc column) → IsLeastIn t line column →
     news ≡ map (turned_line (line_at t line) (suc column)) t.lines.items →
-    AreTableRows t.top (suc (length t.costs.low)) news →
+    AreTableLines t.top (suc (length t.costs.low)) news →
     IsTableauOf t.top t.costs t.rows.items (slice_set t.basis.items column (member_at t line)) news
 pivot_whole t w line column news line_in pivot least news_are numbers =
     let n = length t.costs.low in
@@ -215,7 +215,7 @@ pivot_whole t w line column news line_in pivot least news_are numbers =
     let p = pivot_of t w line column positive.0 line_in pivot least positive.1 positive.2 in
     subst (λ (lines : List (List Fraction)). IsTableauOf t.top t.costs t.rows.items (slice_set t.basis.items column (member_at t line)) lines) (sym news_are)
     (whole_turned t.top t.costs t.rows.items t.basis.items t.lines.items (member_at t line) es column positive.0 w p
-    (subst (AreTableRows t.top (suc n)) news_are numbers))
+    (subst (AreTableLines t.top (suc n)) news_are numbers))
 
 -- the inverse of a positive entry isn't 0
 inverted_not_zero : (z : ℤ) (d : ℕ) → 0 < d → pos 0 <ℤ z → (inverted z d).numerator ≢ pos 0

@@ -13,14 +13,14 @@ use Rattle.design_problem.specs.Basis.{LeadsPositive, entry, member_form}
 use Rattle.design_problem.specs.Earnest.{LexLess}
 use Rattle.design_problem.specs.Steps.{IsPivot}
 use Rattle.fraction_table.specs.declared.table.Table.{Table}
-use Rattle.design_problem.specs.declared.form.CostBox.{CostBox}
-use Rattle.fraction_rows.specs.TableRows.{IsTableNumber}
-use Rattle.fraction_rows.specs.Turns.{AreTableRows}
+use Rattle.design_problem.specs.declared.boxes.CostBox.{CostBox}
+use Rattle.fraction_lines.specs.TableLines.{IsTableNumber}
+use Rattle.fraction_lines.specs.Turns.{AreTableLines}
 use Rattle.fraction_table.specs.ValidTables.{AllLong, IsTableau}
 use Rattle.fraction_table.specs.Pivots.{IsLeastIn, KeepsBoxAndRows, line_at, numbers_of_line, member_at, numbers_in_column, turned_column}
 use Rattle.fraction_table.specs.Ranks.{digits_number, heights, past_heights, raised_height, rank}
 use Rattle.fraction_table.proofs.theory.Height.{digits_number-lt, digits_rise, height_rises}
-use Rattle.fraction_rows.proofs.RowLaws.{number_at as number_there, rows_at}
+use Rattle.fraction_lines.proofs.TableLineLaws.{number_at as number_there, lines_at}
 use Rattle.fraction_table.proofs.theory.Turns.{turned_rows}
 use Rattle.fraction_table.proofs.theory.TurnedNumbers.{numbers_long}
 use Rattle.fraction_table.proofs.theory.TurnedLeads.{column_other, length-numbers_in}
@@ -194,7 +194,7 @@ first_number lows place v v_in = get_or-map (λ ts. number_at ts place) lows v [
 -- Before and after a pivot the constants of x - low are fractions of numbers in the first column.
 constants_there : (t : Table) (w : IsTableau t) (line column a : ℕ) (line_in : line < length t.lines.items) →
     (p : IsPivotOf t.top t.costs t.rows.items w.unboxed.common w.unboxed.lows (member_at t line) (line_at t line) column
-    a) → (rows : AreTableRows t.top (suc (length t.costs.low))
+    a) → (rows : AreTableLines t.top (suc (length t.costs.low))
     (map (turned_line (line_at t line) (suc column)) t.lines.items)) → (v : ℕ) → v < length t.costs.low →
     IsConstant t.top w.unboxed.common a (entry (slice_index_or t.lines.items v []) 0)
     (entry (slice_index_or (map (turned_line (line_at t line) (suc column)) t.lines.items) v []) 0)
@@ -213,7 +213,7 @@ constants_there t w line column a line_in p rows v v_in =
     let as_many = length-map t.lines.items (turned_line (line_at t line) (suc column)) in
     let before = low_line_stands t.top t.costs t.rows.items t.basis.items t.lines.items w v 0 v_in (omega arith) in
     let after = low_line_stands t.top t.costs t.rows.items basis news whole v 0 v_in (omega arith) in
-    let row = rows_at t.top (suc (length t.costs.low)) news v [] rows (omega (arith, as_many, many, v_in)) in
+    let row = lines_at t.top (suc (length t.costs.low)) news v [] rows (omega (arith, as_many, many, v_in)) in
     record {
       old = constant_number t w v (omega (arith, many, v_in));
       new = number_there t.top (slice_index_or news v []) 0 row.1 (omega (arith, row.0));
@@ -227,7 +227,7 @@ constants_there t w line column a line_in p rows v v_in =
 pub rank_rises : (t : Table) (w : IsTableau t) (line column : ℕ) (news : List (List Fraction)) →
     line < length t.lines.items → IsPivot t.basis.items (line_at t line) (suc column) → IsLeastIn t line column →
     news ≡ map (turned_line (line_at t line) (suc column)) t.lines.items →
-    AreTableRows t.top (suc (length t.costs.low)) news →
+    AreTableLines t.top (suc (length t.costs.low)) news →
     rank t < digits_number (past_heights t.top) (heights t.top (length t.costs.low) news)
 unfolding whole_turned
 rank_rises t w line column news line_in pivot least news_are rows =
@@ -238,7 +238,7 @@ rank_rises t w line column news line_in pivot least news_are rows =
     let positive = entry_number t w line column line_in pivot in
     let a = positive.0 in
     let p = pivot_of t w line column a line_in pivot least positive.1 positive.2 in
-    let turned_rows_are : AreTableRows t.top (suc n) turned = subst (AreTableRows t.top (suc n)) news_are rows in
+    let turned_rows_are : AreTableLines t.top (suc n) turned = subst (AreTableLines t.top (suc n)) news_are rows in
     let many = lines_many t w in
     let as_many : length turned ≡ length t.lines.items = length-map t.lines.items (turned_line es (suc column)) in
     let counted = lows_counted t.top t.costs t.rows.items t.basis.items t.lines.items w in
@@ -249,7 +249,8 @@ rank_rises t w line column news line_in pivot least news_are rows =
     (subst (λ (m : ℕ). AllLong m w.unboxed.lows) (sym rs_long) w.unboxed.long) positive.1
     (λ same. omega (arith, same)) (omega (arith, rs_long)) in
     let below = negative_size (number_at rs 0) (constant_negative t w line line_in pivot.below) in
-    let in_columns : length (numbers_in_column 0 w.unboxed.lows) ≡ length (numbers_in_column (suc column) w.unboxed.lows) = length-numbers_in 0 w.unboxed.lows (suc column) in
+    let in_columns : length (numbers_in_column 0 w.unboxed.lows) ≡
+    length (numbers_in_column (suc column) w.unboxed.lows) = length-numbers_in 0 w.unboxed.lows (suc column) in
     let rises = constants_rise w.unboxed.common a (numbers_in_column 0 w.unboxed.lows) below.0 (number_at rs 0)
     (numbers_in_column (suc column) w.unboxed.lows) w.unboxed.positive below.1 below.2 in_columns
     (w.unboxed.lead column p.j_in) in
@@ -266,7 +267,7 @@ rank_rises t w line column news line_in pivot least news_are rows =
     (digits_rise (past_heights t.top) (heights t.top n t.lines.items) (heights t.top n turned)
     (heights_small t.top n t.lines.items (λ v v_in v_there. constant_number t w v v_there))
     (heights_small t.top n turned (λ v v_in v_there.
-    (let row = rows_at t.top (suc n) turned v [] turned_rows_are v_there in
+    (let row = lines_at t.top (suc n) turned v [] turned_rows_are v_there in
     number_there t.top (slice_index_or turned v []) 0 row.1 (omega (arith, row.0)))))
     (heights_long t.top n t.lines.items many ∙ sym (heights_long t.top n turned (omega (arith, as_many, many))))
     higher)
@@ -322,7 +323,8 @@ rank_rises_to s t w v keeps leads =
     ∙ ap (λ z. z *ℤ pos D) (first_number v.unboxed.lows 0 i (omega (arith, counted_after, wide, i_in))) in
     record {
       old = constant_number s w i (omega (arith, many, i_in));
-      new = subst (λ (top : ℕ). IsTableNumber top (entry (slice_index_or t.lines.items i []) 0)) keeps.top (constant_number t v i (omega (arith, many_after, i_in)));
+      new = subst (λ (top : ℕ). IsTableNumber top (entry (slice_index_or t.lines.items i []) 0)) keeps.top
+          (constant_number t v i (omega (arith, many_after, i_in)));
       old_stands = subst (λ (z : ℤ). StandsFor (entry (line_at s i) 0) z D) (sym (first_number w.unboxed.lows 0 i (omega (arith, counted, i_in)))) before.1;
       new_stands = subst (λ (z : ℤ). StandsFor (entry (line_at t i) 0) z (D * a)) (sym y_is)
           (scaled_stands (entry (line_at t i) 0) (number_at (slice_index_or v.unboxed.lows i []) 0) D a after.1);

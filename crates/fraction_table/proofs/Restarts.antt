@@ -6,30 +6,30 @@ use Rattle.cost_base.specs.Lists.{numbers_from}
 use Rattle.cost_base.proofs.ListLemmas.{length-map-numbers_from, get_or-map-numbers_from}
 use Rattle.whole_numbers.specs.Fractions.{Fraction, whole}
 use Rattle.design_problem.specs.declared.form.Form.{Form}
-use Rattle.design_problem.specs.declared.form.CostBox.{CostBox}
+use Rattle.design_problem.specs.declared.boxes.CostBox.{CostBox}
 use Rattle.wide_fraction.specs.Widths.{IsTop}
 use Rattle.design_problem.specs.declared.tree.Member.{Member}
 use Rattle.design_problem.specs.declared.tree.Member.TheVariants.{Low, High}
 use Rattle.design_problem.specs.declared.form.Term.{Term}
 use Rattle.design_problem.specs.Forms.{terms_from, value_for_costs, no_term}
 use Rattle.design_problem.proofs.TermLaws.{rising_from}
-use Rattle.fraction_rows.proofs.TermSums.{term_in}
+use Rattle.fraction_lines.proofs.TermSums.{term_in}
 use Rattle.design_problem.specs.Basis.{IsFormOf, entry, low_member, member_form, unit}
-use Rattle.fraction_rows.specs.TableRows.{AreTableNumbers, blank_row, nothing}
-use Rattle.fraction_rows.proofs.BlankRows.{blank_entry, blank_size, cleared_set}
+use Rattle.fraction_lines.specs.TableLines.{AreTableNumbers, blank_line, nothing}
+use Rattle.fraction_lines.proofs.BlankLines.{blank_entry, blank_size, cleared_set}
 use Rattle.fraction_table.specs.Tableaus.{FitsBox, Held, IsRebased, moved_basis, rebased, starting}
 use Rattle.fraction_table.specs.declared.stage.Stage.{Stage}
 use Rattle.fraction_table.specs.declared.stage.Stage.TheVariants.{Open}
 use Rattle.fraction_table.proofs.Pivots.{members_long}
 use Rattle.fraction_table.specs.ValidTables.{IsTableauOf, IsTableau, held_of, members_of_box, starting_line}
-use Rattle.fraction_table.specs.Moves.{HasShape, IsMoved, KeepsAllButLines, KeepsTableRows}
+use Rattle.fraction_table.specs.Moves.{HasShape, IsMoved, KeepsAllButLines, KeepsTableLines}
 use Rattle.fraction_table.specs.Pivots.{member_at}
-use Rattle.fraction_rows.specs.Turns.{AreTableRows}
+use Rattle.fraction_lines.specs.Turns.{AreTableLines}
 use Rattle.fraction_table.specs.declared.table.Table.{Table}
 use Rattle.design_problem.specs.Boxes.{IsBox}
 use Rattle.fraction_table.proofs.StartingTables.{whole_start}
 use Rattle.fraction_table.proofs.BetweenBoxes.{all_written, written_next}
-use Rattle.fraction_rows.proofs.SmallNumbers.{whole_number}
+use Rattle.fraction_lines.proofs.SmallNumbers.{whole_number}
 use Rattle.fraction_table.proofs.theory.Units.{high_value, low_value}
 use Rattle.fraction_table.proofs.IntegralTurns.{coefficients_long}
 
@@ -80,8 +80,8 @@ terms_put constant first a qs (negsuc n ∷ cs) long =
     (terms_put constant (suc first) (a + 1) (qs ++ whole (negsuc n) ∷ []) cs
     (one_longer qs (whole (negsuc n)) first long))
 
--- What a line is on its way to that of a form: with the terms from the counter on it is that line, and it has 0 from the
--- next term's variable on.
+-- What a line is on its way to that of a form: with the terms from the counter on it is that line, and it has 0 from
+-- the next term's variable on.
 pub record IsPutTo (constant : ℤ) (cs : List ℤ) (ts : List Term) (index : ℕ) (line : List Fraction) : Type 0 where
   pub long : length line ≡ suc (length cs)
   pub left : with_terms line (drop index ts) ≡ whole constant ∷ map whole cs
@@ -89,7 +89,7 @@ pub record IsPutTo (constant : ℤ) (cs : List ℤ) (ts : List Term) (index : �
 
 pub put_first : (constant : ℤ) (cs : List ℤ) (ts : List Term) (old cleared now : List Fraction) (q : Fraction) →
     ts ≡ terms_from 0 cs → length old ≡ suc (length cs) →
-    cleared ≡ blank_row (length old - 1) → q ≡ whole constant →
+    cleared ≡ blank_line (length old - 1) → q ≡ whole constant →
     now ≡ slice_set cleared 0 q → IsPutTo constant cs ts 0 now
 put_first constant cs ts old cleared now q ts_are long cleared_are q_is now_is =
     let n = length cs in
@@ -221,9 +221,9 @@ pub restarted : (s : Table) (costs : CostBox) (rows : List Form) → s.costs ≡
     s.basis.items ≡ starting costs → s.lines.items ≡ map (starting_line costs rows) (members_of_box costs (length rows)) →
     HasShape s → IsBox (length costs.low) costs → All (FitsBox costs) rows → IsTableau s
 restarted s costs rows costs_are rows_are basis_is lines_are shape box fit =
-    let numbers : AreTableRows s.top (suc (length costs.low)) (map (starting_line costs rows) (members_of_box costs (length rows))) =
-    subst (AreTableRows s.top (suc (length costs.low))) lines_are
-    (subst (λ (c : CostBox). AreTableRows s.top (suc (length c.low)) s.lines.items) costs_are shape.lines) in
+    let numbers : AreTableLines s.top (suc (length costs.low)) (map (starting_line costs rows) (members_of_box costs (length rows))) =
+    subst (AreTableLines s.top (suc (length costs.low))) lines_are
+    (subst (λ (c : CostBox). AreTableLines s.top (suc (length c.low)) s.lines.items) costs_are shape.lines) in
     let start = whole_start s.top costs rows box fit numbers in
     let whole : IsTableauOf s.top s.costs s.rows.items s.basis.items s.lines.items = rw (costs_are, rows_are, basis_is, lines_are) start in
     whole
@@ -248,11 +248,12 @@ pub starting_many : (costs : CostBox) → length (starting costs) ≡ length cos
 starting_many costs = length-map-numbers_from (low_member costs) 0 (length costs.low)
 
 -- boxes of as many variables have as many members
-pub members_same : (costs next : CostBox) (rows : ℕ) → length costs.low ≡ length next.low → length (members_of_box costs rows) ≡ length (members_of_box next rows)
+pub members_same : (costs next : CostBox) (rows : ℕ) → length costs.low ≡ length next.low →
+    length (members_of_box costs rows) ≡ length (members_of_box next rows)
 members_same costs next rows width = omega (arith, members_long costs rows, members_long next rows, width)
 
 -- what is held of a table that has moved, or that was started anew
-pub held_is : (old new : Table) (costs : CostBox) (basis : List Member) → KeepsTableRows old new → new.costs ≡ costs →
+pub held_is : (old new : Table) (costs : CostBox) (basis : List Member) → KeepsTableLines old new → new.costs ≡ costs →
     new.basis.items ≡ basis → held_of new Open ≡ rebased (held_of old Open) costs basis
 held_is old new costs basis keeps costs_are basis_is =
     ap (λ (top : ℕ). record { top = top; costs = new.costs; rows = new.rows.items; basis = new.basis.items; stage = Open }) keeps.top
@@ -260,7 +261,7 @@ held_is old new costs basis keeps costs_are basis_is =
     ∙ ap (λ (rows : List Form). record { top = old.top; costs = costs; rows = rows; basis = new.basis.items; stage = Open }) keeps.rows
     ∙ ap (λ (ms : List Member). record { top = old.top; costs = costs; rows = old.rows.items; basis = ms; stage = Open }) basis_is
 
-pub moved_rebased : (old new : Table) (costs : CostBox) → KeepsTableRows old new → IsMoved old costs new →
+pub moved_rebased : (old new : Table) (costs : CostBox) → KeepsTableLines old new → IsMoved old costs new →
     held_of new Open ≡ rebased (held_of old Open) costs (moved_basis costs old.basis.items)
 moved_rebased old new costs keeps is = held_is old new costs (moved_basis costs old.basis.items) keeps is.costs_are is.basis
 

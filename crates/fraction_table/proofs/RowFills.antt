@@ -7,17 +7,17 @@ use Rattle.cost_base.specs.Lists.{numbers_from}
 use Rattle.cost_base.proofs.ListLemmas.{each_mapped}
 use Rattle.whole_numbers.specs.Fractions.{Fraction}
 use Rattle.design_problem.specs.declared.form.Form.{Form}
-use Rattle.design_problem.specs.declared.form.CostBox.{CostBox}
+use Rattle.design_problem.specs.declared.boxes.CostBox.{CostBox}
 use Rattle.design_problem.specs.Basis.{entry}
 use Rattle.design_problem.specs.Steps.{start_of_sum}
 use Rattle.wide_fraction.specs.declared.steps.Wide.{Wide}
-use Rattle.fraction_rows.specs.Entries.{IsPassing}
+use Rattle.fraction_lines.specs.Entries.{IsPassing}
 use Rattle.fraction_table.specs.RowLines.{IsAddedLine, IsRowStep, sum_at_place}
-use Rattle.fraction_rows.specs.Sums.{IsSumStep, sum_of_terms}
-use Rattle.fraction_rows.specs.TableRows.{AreTableNumbers, IsTableNumber, blank_row, nothing}
-use Rattle.fraction_rows.proofs.BlankRows.{blank_entry, blank_size}
-use Rattle.fraction_rows.proofs.ZeroFractions.{nothing_number}
-use Rattle.fraction_rows.proofs.RowLaws.{written_numbers}
+use Rattle.fraction_lines.specs.Sums.{IsSumStep, sum_of_terms}
+use Rattle.fraction_lines.specs.TableLines.{AreTableNumbers, IsTableNumber, blank_line, nothing}
+use Rattle.fraction_lines.proofs.BlankLines.{blank_entry, blank_size}
+use Rattle.fraction_lines.proofs.ZeroFractions.{nothing_number}
+use Rattle.fraction_lines.proofs.TableLineLaws.{written_numbers}
 
 -- the first places of a line have the form's sums, and the others 0
 pub record IsFilledTo (top : ℕ) (costs : CostBox) (form : Form) (lines : List (List Fraction)) (count : ℕ) (line : List Fraction) : Type 0 where
@@ -48,7 +48,7 @@ filled_next top costs form lines count line new q count_in q_is number new_is f 
 
 -- the constant is filled first
 pub filled_first : (top : ℕ) (costs : CostBox) (form : Form) (lines : List (List Fraction)) (line new : List Fraction)
-    (q : Fraction) → line ≡ blank_row (length costs.low) →
+    (q : Fraction) → line ≡ blank_line (length costs.low) →
     q ≡ sum_at_place costs form lines 0 → IsTableNumber top q → new ≡ slice_set line 0 q →
     IsFilledTo top costs form lines 1 new
 filled_first top costs form lines line new q blank q_is number new_is =
@@ -100,7 +100,7 @@ pub record IsStarted (top : ℕ) (costs : CostBox) (form : Form) (line : List Fr
 
 -- a line of zeros with its constant put
 pub started_line : (top : ℕ) (costs : CostBox) (form : Form) (line new : List Fraction) (q : Fraction) →
-    line ≡ blank_row (length costs.low) → q ≡ start_of_sum costs form 0 →
+    line ≡ blank_line (length costs.low) → q ≡ start_of_sum costs form 0 →
     IsTableNumber top q → new ≡ slice_set line 0 q → IsStarted top costs form new
 started_line top costs form line new q blank q_is number new_is =
     let none = nothing_number top q number in

@@ -11,18 +11,18 @@ use Rattle.whole_numbers.proofs.Multiples.{plus_stands_over}
 use Rattle.whole_numbers.specs.Lists.{number_at}
 use Rattle.wide_fraction.specs.declared.steps.Wide.{Wide}
 use Rattle.design_problem.specs.declared.form.Form.{Form}
-use Rattle.design_problem.specs.declared.form.CostBox.{CostBox}
+use Rattle.design_problem.specs.declared.boxes.CostBox.{CostBox}
 use Rattle.design_problem.specs.declared.tree.Member.{Member}
 use Rattle.design_problem.specs.Forms.{form_at, no_form, value_for_costs}
 use Rattle.design_problem.specs.Basis.{AreEntries, IsTable, entry, low_member, member_form}
 use Rattle.design_problem.specs.Steps.{IsTableStep, IsStepTooWide, row_product, row_sum, start_of_sum, terms}
 use Rattle.fraction_table.specs.RowLines.{IsAddedLine, IsRowStep, sum_at_place}
-use Rattle.fraction_rows.specs.Sums.{IsSumStep, product, sum, sum_of_terms}
+use Rattle.fraction_lines.specs.Sums.{IsSumStep, product, sum, sum_of_terms}
 use Rattle.fraction_table.specs.Tableaus.{FitsBox, wide_at}
 use Rattle.fraction_table.specs.ValidTables.{IsTableauOf, Stand, from_lows, number_of_form, numbers_of_form}
 use Rattle.fraction_table.proofs.Bases.{low_line_stands, lows_counted, table_long, whole_table}
 use Rattle.fraction_table.proofs.MoreRows.{forms_kept, member_kept, whole_more}
-use Rattle.fraction_rows.proofs.ZeroFractions.{times_lowest}
+use Rattle.fraction_lines.proofs.ZeroFractions.{times_lowest}
 use Rattle.fraction_table.proofs.theory.TurnedNumbers.{numbers_at, numbers_long}
 use Rattle.fraction_table.proofs.theory.Zips.{zip_from}
 

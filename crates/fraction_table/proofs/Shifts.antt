@@ -10,7 +10,7 @@ use Rattle.cost_base.proofs.ListLemmas.{length_zip}
 use Rattle.whole_numbers.specs.Fractions.{Fraction, whole}
 use Rattle.wide_fraction.specs.declared.steps.Wide.{Wide}
 use Rattle.design_problem.specs.declared.form.Form.{Form}
-use Rattle.design_problem.specs.declared.form.CostBox.{CostBox}
+use Rattle.design_problem.specs.declared.boxes.CostBox.{CostBox}
 use Rattle.design_problem.specs.declared.tree.Member.{Member}
 use Rattle.design_problem.specs.declared.tree.Member.TheVariants.{Low, High, Row}
 use Rattle.design_problem.specs.Boxes.{with_high, with_low}
@@ -19,9 +19,9 @@ use Rattle.fraction_table.specs.declared.table.Table.{Table}
 use Rattle.fraction_table.specs.Pivots.{KeepsBoxAndRows}
 use Rattle.fraction_table.specs.Tableaus.{IsShiftStep, moved_basis, moved_member}
 use Rattle.fraction_table.specs.Tableaus.IsShiftStep.{constant, product, sum}
-use Rattle.fraction_rows.specs.Turns.{AreTableRows}
+use Rattle.fraction_lines.specs.Turns.{AreTableLines}
 use Rattle.fraction_table.specs.ValidTables.{HasRoom, IsTableLine, IsUnboxed, IsUnboxedTable, low_forms, members_of_box, numbers_of_form}
-use Rattle.fraction_table.specs.Moves.{HasShape, IsColumnOf, IsRaiseStep, IsTableShifted, IsShiftedWide, IsWideShift, KeepsTableRows, ShiftsWide, high_shift_of, low_shift_of, shifted_lines}
+use Rattle.fraction_table.specs.Moves.{HasShape, IsColumnOf, IsRaiseStep, IsTableShifted, IsShiftedWide, IsWideShift, KeepsTableLines, ShiftsWide, high_shift_of, low_shift_of, shifted_lines}
 use Rattle.fraction_table.specs.Moves.IsRaiseStep.{product as raise_product, sum as raise_sum}
 use Rattle.fraction_table.proofs.Bases.{low_forms_long, members_begin}
 use Rattle.fraction_table.proofs.theory.MovedNumbers.{IsNumbered, lowered_rows}
@@ -45,11 +45,12 @@ pub length-raised : (column : Option ℕ) (fall : ℤ) (lows : List (List ℤ)) 
 length-raised None fall lows = refl
 length-raised (Some j) fall lows = length-map lows _
 
-shifted_rows : (t s : Table) → KeepsBoxAndRows t s → HasShape s → (ls : List (List Fraction)) → s.lines.items ≡ ls → AreTableRows t.top (suc (length t.costs.low)) ls
+shifted_rows : (t s : Table) → KeepsBoxAndRows t s → HasShape s → (ls : List (List Fraction)) → s.lines.items ≡ ls →
+    AreTableLines t.top (suc (length t.costs.low)) ls
 shifted_rows t s k shape ls ls_are =
-    subst (AreTableRows t.top (suc (length t.costs.low))) ls_are
-    (subst (λ (top : ℕ). AreTableRows top (suc (length t.costs.low)) s.lines.items) k.top
-    (subst (λ (costs : CostBox). AreTableRows s.top (suc (length costs.low)) s.lines.items) k.costs shape.lines))
+    subst (AreTableLines t.top (suc (length t.costs.low))) ls_are
+    (subst (λ (top : ℕ). AreTableLines top (suc (length t.costs.low)) s.lines.items) k.top
+    (subst (λ (costs : CostBox). AreTableLines s.top (suc (length costs.low)) s.lines.items) k.costs shape.lines))
 
 -- a table that was shifted as a move of bounds asks is at the new bounds
 shift_unboxed : (t s : Table) (u : IsUnboxedTable t) (next : CostBox) (news : List (List ℤ)) (before after : Member)
@@ -214,7 +215,7 @@ unboxed_shape t u room =
   where
     fit : (members : List Member) (lines : List (List Fraction)) →
         AllZip (IsTableLine t.top u.common t.costs t.rows.items u.lows) members lines →
-        AreTableRows t.top (suc (length t.costs.low)) lines
+        AreTableLines t.top (suc (length t.costs.low)) lines
     fit [] [] all = tt
     fit [] (line ∷ lines) all = absurd all
     fit (member ∷ members) [] all = absurd all
@@ -237,7 +238,7 @@ pub kept_number : (z : ℤ) → nat_abs z < 2 ^ 27 → to_z w64 (of_z w64 z) ≡
 kept_number z small = to_z-of_z w64 z (fits_signed_from_abs w64 z (omega (arith, small)))
 
 -- a table that keeps its forms keeps its rows
-pub rows_kept : (t s : Table) → KeepsBoxAndRows t s → KeepsTableRows t s
+pub rows_kept : (t s : Table) → KeepsBoxAndRows t s → KeepsTableLines t s
 rows_kept t s k = record { top = k.top; rows = k.rows; width = ap (λ costs. length costs.low) k.costs }
 
 -- what a table is whose bounds were set to the next ones, after its lines moved

@@ -1,5 +1,5 @@
 -- What a whole table shows of the points of its box: its corner, where no constant is negative, and that there is none
--- where a form is stuck.
+-- where a form is a refuting one.
 use Rattle.std.proofs.Common.{◌≡◌, ℕ, zero, suc, ◌+◌, ◌*◌, ◌<◌, ◌≤◌, refl, sym, ◌∙◌, ap, subst, List, [], ◌∷◌, map, length, arith}
 use Rattle.std.specs.Prelude.{ℤ, pos, negsuc, ◌+ℤ◌, ◌-ℤ◌, ◌*ℤ◌, neg_ℤ, nat_abs, ◌<ℤ◌, ◌≤ℤ◌, Result, Ok, Err, IfOk, OnOk, slice_index, slice_index_or, All}
 use Rattle.std.specs.Int.Signed.{clash_ℤ}
@@ -14,26 +14,26 @@ use Rattle.wide_fraction.specs.declared.steps.Wide.{Wide}
 use Rattle.area_graph.specs.declared.Point.{Point}
 use Rattle.whole_numbers.specs.Lists.{number_at}
 use Rattle.design_problem.specs.declared.form.Form.{Form}
-use Rattle.design_problem.specs.declared.form.CostBox.{CostBox}
+use Rattle.design_problem.specs.declared.boxes.CostBox.{CostBox}
 use Rattle.design_problem.specs.declared.tree.Member.{Member}
 use Rattle.design_problem.specs.declared.tree.Member.TheVariants.{Low, High, Row}
 use Rattle.design_problem.specs.Forms.{no_form, value_at, AreMet}
 use Rattle.design_problem.specs.Boxes.{IsPointOf}
 use Rattle.design_problem.specs.Basis.{IsFormOf, entry, forms_of, low_member, member_form}
-use Rattle.design_problem.specs.Steps.{IsStuck}
+use Rattle.design_problem.specs.Steps.{IsRefutingForm}
 use Rattle.fraction_table.specs.declared.table.Table.{Table}
 use Rattle.fraction_table.specs.declared.stage.Solved.{Solved}
 use Rattle.fraction_table.specs.declared.stage.Stage.TheVariants.{Ended}
 use Rattle.fraction_table.specs.declared.stage.Solved.TheVariants.{Feasible, Refuted}
-use Rattle.fraction_rows.specs.TableRows.{AreTableNumbers}
+use Rattle.fraction_lines.specs.TableLines.{AreTableNumbers}
 use Rattle.fraction_table.specs.Tableaus.{IsAmongForms, IsSolved}
 use Rattle.fraction_table.specs.ValidTables.{IsTableLine, IsShown, IsTableau, Stand, high_member, low_forms, members_of_box, number_of_form}
 use Rattle.fraction_table.specs.Pivots.{AreHigh, KeepsBoxAndRows, line_at, numbers_of_line, member_at}
-use Rattle.fraction_table.proofs.theory.Corner.{NotAbove, stuck_negative}
+use Rattle.fraction_table.proofs.theory.Corner.{NotAbove, refuting_negative}
 use Rattle.fraction_table.proofs.theory.Tables.{IsCorner, corner_value}
 use Rattle.fraction_table.proofs.theory.Blends.{form_mixture}
 use Rattle.fraction_table.proofs.theory.Resolved.{resolved}
-use Rattle.fraction_rows.proofs.RowLaws.{number_at as number_there}
+use Rattle.fraction_lines.proofs.TableLineLaws.{number_at as number_there}
 use Rattle.fraction_table.proofs.theory.TurnedNumbers.{numbers_at, numbers_long}
 use Rattle.fraction_table.proofs.theory.Units.{unit_dot}
 use Rattle.fraction_table.proofs.IntegralTurns.{coefficients_long, stand_at}
@@ -119,23 +119,23 @@ not_above top D (q ∷ qs) (m ∷ ms) D_positive numbers stand low = (
   not_above top D qs ms D_positive numbers.1 stand.1 (λ k k_in. low (suc k) (omega arith)),
 )
 
-pub stuck_first : (top D : ℕ) (qs : List Fraction) (m : ℤ) (ms : List ℤ) → 0 < D → AreTableNumbers top qs →
+pub refuting_first : (top D : ℕ) (qs : List Fraction) (m : ℤ) (ms : List ℤ) → 0 < D → AreTableNumbers top qs →
     Stand D qs (m ∷ ms) → (entry qs 0).numerator <ℤ pos 0 → m <ℤ pos 0
-stuck_first top D [] m ms D_positive numbers stand below = absurd stand
-stuck_first top D (q ∷ qs) m ms D_positive numbers stand below =
+refuting_first top D [] m ms D_positive numbers stand below = absurd stand
+refuting_first top D (q ∷ qs) m ms D_positive numbers stand below =
     negative_number q.numerator m q.denominator D numbers.0.lowest.positive D_positive stand.0 below
 
-stuck_rest : (top D count : ℕ) (qs : List Fraction) (m : ℤ) (ms : List ℤ) → 0 < D → AreTableNumbers top qs →
+refuting_rest : (top D count : ℕ) (qs : List Fraction) (m : ℤ) (ms : List ℤ) → 0 < D → AreTableNumbers top qs →
     Stand D qs (m ∷ ms) → length qs ≡ suc count → ((k : ℕ) → 1 ≤ k → k ≤ count → (entry qs k).numerator ≤ℤ pos 0) →
     NotAbove ms
-stuck_rest top D count [] m ms D_positive numbers stand counted low = absurd stand
-stuck_rest top D count (q ∷ qs) m ms D_positive numbers stand counted low =
+refuting_rest top D count [] m ms D_positive numbers stand counted low = absurd stand
+refuting_rest top D count (q ∷ qs) m ms D_positive numbers stand counted low =
     not_above top D qs ms D_positive numbers.1 stand.1 (λ k k_in. low (suc k) (omega arith) (omega (arith, counted, k_in)))
 
--- Where a form is stuck, no rational point of the box meets the rows.
-pub stuck_refutes : (t : Table) (w : IsTableau t) (line : ℕ) → line < length t.lines.items →
-    IsStuck t.basis.items (line_at t line) → IsSolved t.costs t.rows.items (Refuted line)
-stuck_refutes t w line line_in stuck p point meets =
+-- Where a form is a refuting one, no rational point of the box meets the rows.
+pub refuting_refutes : (t : Table) (w : IsTableau t) (line : ℕ) → line < length t.lines.items →
+    IsRefutingForm t.basis.items (line_at t line) → IsSolved t.costs t.rows.items (Refuted line)
+refuting_refutes t w line line_in refuting p point meets =
     let n = length t.costs.low in
     let D = w.unboxed.common in
     let member = member_at t line in
@@ -150,9 +150,9 @@ stuck_refutes t w line line_in stuck p point meets =
     w.unboxed.mixtures (resolved t.costs.low f (coefficients_long t.costs t.rows.items member w.fit is)) in
     let met : pos 0 ≤ℤ value_at f p = member_met t.costs t.rows.items p member point meets is in
     let below : value_at f p <ℤ pos 0 =
-    stuck_negative f bs D m ms p mixture_is (stuck_first t.top D es m ms w.unboxed.positive l.numbers l.stand stuck.below)
-    (stuck_rest t.top D n es m ms w.unboxed.positive l.numbers l.stand (line_long t w line line_in)
-    (λ k k_from k_in. stuck.none_above k k_from (omega (arith, w.unboxed.count, k_in))))
+    refuting_negative f bs D m ms p mixture_is (refuting_first t.top D es m ms w.unboxed.positive l.numbers l.stand refuting.below)
+    (refuting_rest t.top D n es m ms w.unboxed.positive l.numbers l.stand (line_long t w line line_in)
+    (λ k k_from k_in. refuting.none_above k k_from (omega (arith, w.unboxed.count, k_in))))
     (basis_met t.costs t.rows.items p t.basis.items point meets w.unboxed.members) point.scale in
     clash_ℤ below met
 
@@ -277,7 +277,7 @@ corner_solves t w high = (corner_point t w, corner_fits t w high)
 pub shown_solves : (t : Table) (w : IsTableau t) (solved : Solved) →
     IsShown t.basis.items t.lines.items (Ended solved) → IsSolved t.costs t.rows.items solved
 shown_solves t w Feasible high = corner_solves t w high
-shown_solves t w (Refuted line) stuck = stuck_refutes t w line stuck.0 stuck.1
+shown_solves t w (Refuted line) refuting = refuting_refutes t w line refuting.0 refuting.1
 
 -- what the work on a table found is so of the forms that it began with
 pub settled_solves : (old new : Table) (found : Result Solved Wide) → KeepsBoxAndRows old new →

@@ -1,17 +1,17 @@
--- Rows of fractions stand for numbers over one denominator, and a pivot on the fractions is a pivot on the numbers.
+-- Lines of fractions stand for numbers over one denominator, and a pivot on the fractions is a pivot on the numbers.
 use Rattle.std.proofs.Common.{◌≡◌, ◌≢◌, ℕ, zero, suc, ◌+◌, ◌*◌, ◌<◌, cond, Bool, refl, sym, ◌∙◌, ap, subst, List, [], ◌∷◌, length, arith}
 use Rattle.std.specs.Prelude.{ℤ, pos, ◌-ℤ◌, ◌*ℤ◌, ◌==◌, slice_set, slice_index_or}
 use Rattle.whole_numbers.specs.Fractions.{Fraction, StandsFor, whole, minus, times, divided}
 use Rattle.whole_numbers.proofs.Ring.{var, num, ◌⊖◌, ◌⊗◌, ring}
 use Rattle.whole_numbers.proofs.FractionLaws.{times_stands, divided_stands, pivot_entry_stands, stands_more}
 use Rattle.design_problem.specs.Basis.{entry}
-use Rattle.fraction_rows.specs.TableRows.{AreTableNumbers, IsTableNumber, crossed_by, divided_without, nothing as none}
-use Rattle.fraction_rows.proofs.Columns.{other_test}
+use Rattle.fraction_lines.specs.TableLines.{AreTableNumbers, IsTableNumber, crossed_by, divided_without, nothing as none}
+use Rattle.std.proofs.lemmas.Bool.{ne_eqb}
 use Rattle.fraction_table.specs.ValidTables.{Stand}
-use Rattle.fraction_rows.proofs.ZeroFractions.{divided_lowest}
+use Rattle.fraction_lines.proofs.ZeroFractions.{divided_lowest}
 use Rattle.fraction_table.proofs.theory.Pivot.{crossed, turned}
 
--- The two fractions by which a row is turned: the row's own entry at the pivot's column, which stands for n, and the
+-- The two fractions by which a line is turned: the line's own entry at the pivot's column, which stands for n, and the
 -- pivot's, which stands for a.
 pub record IsTurn (e q : Fraction) (n : ℤ) (a D : ℕ) : Type 0 where
   pub own_positive : 0 < e.denominator
@@ -26,7 +26,7 @@ other_stands : (top place j D a : ℕ) (e q f r : Fraction) (n m k : ℤ) → pl
     IsTableNumber top r → StandsFor f m D → StandsFor r k D →
     StandsFor (minus f (times e (cond (place == j) none (divided r q)))) ((m *ℤ pos a) -ℤ (n *ℤ k)) (D * a)
 other_stands top place j D a e q f r n m k other turn f_is r_is f_stands r_stands =
-    subst (λ (b : Bool). StandsFor (minus f (times e (cond b none (divided r q)))) ((m *ℤ pos a) -ℤ (n *ℤ k)) (D * a)) (sym (other_test place j other))
+    subst (λ (b : Bool). StandsFor (minus f (times e (cond b none (divided r q)))) ((m *ℤ pos a) -ℤ (n *ℤ k)) (D * a)) (sym (ne_eqb place j other))
     (pivot_entry_stands f e r q m n k a D f_is.lowest.positive turn.own_positive
     (divided_lowest r q r_is.lowest.positive).positive r_is.lowest.positive turn.pivot_positive
     turn.number_positive turn.common_positive f_stands turn.own r_stands turn.pivot)
@@ -46,7 +46,7 @@ rest_stands top place j D a e q n (f ∷ fs) (r ∷ rs) (m ∷ ms) (k ∷ ks) be
   rest_stands top (suc place) j D a e q n fs rs ms ks (omega arith) turn fs_are.1 rs_are.1 fs_stand.1 rs_stand.1,
 )
 
--- the pivot's own place: the row's entry over the pivot's
+-- the pivot's own place: the line's entry over the pivot's
 inverse_stands : (D a : ℕ) (e q : Fraction) (n : ℤ) → IsTurn e q n a D → StandsFor (times e (divided (whole (pos 1)) q)) (n *ℤ pos D) (D * a)
 inverse_stands D a e q n turn =
     let one_is : StandsFor (whole (pos 1)) (pos D) D = ring (pos D ∷ []) (num (pos 1) ⊗ var 0) (var 0 ⊗ num (pos 1)) refl in
@@ -73,7 +73,7 @@ places_stand top place (suc i) j D a e q n (f ∷ fs) (r ∷ rs) (m ∷ ms) (k �
   places_stand top (suc place) i j D a e q n fs rs ms ks (omega arith) turn fs_are.1 rs_are.1 (omega arith) fs_stand.1 rs_stand.1,
 )
 
--- a row of fractions after the pivot on a row and a place
+-- a line of fractions after the pivot on a line and a place
 abbrev pub turned_row : List Fraction → List Fraction → ℕ → List Fraction
 turned_row fs rs j =
     slice_set (crossed_by (entry fs j) fs (divided_without j (entry rs j) rs 0)) j (times (entry fs j) (divided (whole (pos 1)) (entry rs j)))
@@ -93,7 +93,7 @@ turned_stands top j D a n fs rs ms ks own_is pivot_is turn fs_are rs_are same fs
 less_nothing : (m a k : ℤ) → (m *ℤ a) ≡ ((m *ℤ a) -ℤ (pos 0 *ℤ k))
 less_nothing m a k = ring (m ∷ a ∷ k ∷ []) (var 0 ⊗ var 1) ((var 0 ⊗ var 1) ⊖ (num (pos 0) ⊗ var 2)) refl
 
--- a row whose entry at the pivot's column is 0 stays as it is
+-- a line whose entry at the pivot's column is 0 stays as it is
 kept_places : (i D a : ℕ) (fs : List Fraction) (ms ks : List ℤ) → length ms ≡ length ks →
     slice_index_or ms i (pos 0) ≡ pos 0 → Stand D fs ms →
     Stand (D * a) fs (slice_set (crossed (pos a) (pos 0) ms ks) i (pos 0 *ℤ pos D))

@@ -3,26 +3,26 @@ use Rattle.std.proofs.Common.{◌≡◌, ℕ, suc, ◌+◌, ◌^◌, ◌<◌, co
 use Rattle.std.specs.Prelude.{ℤ, pos, negsuc, ◌-ℤ◌, ◌==◌, nat_abs, slice_index, slice_set}
 use Rattle.std.proofs.lemmas.List.{length-map, map-append}
 use Rattle.std.proofs.lemmas.Simd.{map-map}
+use Rattle.std.proofs.lemmas.Bool.{eq-eqb, ne_eqb}
 use Rattle.cost_base.specs.Lists.{numbers_from}
 use Rattle.cost_base.proofs.ListLemmas.{length-map-numbers_from, map-numbers_from-agree}
 use Rattle.whole_numbers.specs.Fractions.{Fraction, whole}
 use Rattle.wide_fraction.specs.Widths.{IsTop}
-use Rattle.design_problem.specs.declared.form.CostBox.{CostBox}
+use Rattle.design_problem.specs.declared.boxes.CostBox.{CostBox}
 use Rattle.design_problem.specs.Basis.{low_member, unit}
-use Rattle.fraction_rows.specs.TableRows.{AreTableNumbers, nothing}
-use Rattle.fraction_rows.specs.Turns.{AreTableRows}
+use Rattle.fraction_lines.specs.TableLines.{AreTableNumbers, nothing}
+use Rattle.fraction_lines.specs.Turns.{AreTableLines}
 use Rattle.fraction_table.specs.ValidTables.{high_member, members_of_box, starting_line}
-use Rattle.fraction_rows.proofs.Columns.{same_test, other_test}
-use Rattle.fraction_rows.proofs.FilledRows.{mapped_written}
-use Rattle.fraction_rows.proofs.SmallNumbers.{whole_number}
+use Rattle.fraction_lines.proofs.FilledLines.{mapped_written}
+use Rattle.fraction_lines.proofs.SmallNumbers.{whole_number}
 use Rattle.fraction_table.proofs.theory.Units.{high_value, low_value}
 
 pub rows_more : (top count : ℕ) (olds news : List (List Fraction)) (line : List Fraction) → news ≡ olds ++ line ∷ [] →
-    AreTableRows top count olds → length line ≡ count → AreTableNumbers top line → AreTableRows top count news
+    AreTableLines top count olds → length line ≡ count → AreTableNumbers top line → AreTableLines top count news
 rows_more top count olds news line news_are olds_fit counted numbers =
-    subst (AreTableRows top count) (sym news_are) (put olds olds_fit)
+    subst (AreTableLines top count) (sym news_are) (put olds olds_fit)
   where
-    put : (lines : List (List Fraction)) → AreTableRows top count lines → AreTableRows top count (lines ++ line ∷ [])
+    put : (lines : List (List Fraction)) → AreTableLines top count lines → AreTableLines top count (lines ++ line ∷ [])
     put [] fit = (counted, numbers, tt)
     put (first ∷ lines) fit = (fit.0, fit.1, put lines fit.2)
 
@@ -30,8 +30,8 @@ unit_set : (width v : ℕ) (c : ℤ) → v < width → slice_set (map (λ column
 unit_set width v c v_in =
     sym (map-map whole (λ k. cond (k == v) c (pos 0)) (numbers_from 0 width)
     ∙ mapped_written (λ column. nothing) (λ k. whole (cond (k == v) c (pos 0))) 0 width v (whole c) v_in
-    (ap (λ b. whole (cond b c (pos 0))) (same_test (0 + v) v (zero-add v)))
-    (λ m from m_in other. ap (λ b. whole (cond b c (pos 0))) (other_test m v (λ same. other (same ∙ sym (zero-add v))))))
+    (ap (λ b. whole (cond b c (pos 0))) (eq-eqb (0 + v) v (zero-add v)))
+    (λ m from m_in other. ap (λ b. whole (cond b c (pos 0))) (ne_eqb m v (λ same. other (same ∙ sym (zero-add v))))))
 
 -- and with an entry in one column
 pub entry_set : (row now : List Fraction) (width v : ℕ) (constant coefficient : ℤ) (value : Fraction) → v < width →

@@ -1,4 +1,5 @@
--- At the starting basis the table is whole: a form's numbers over 1 are its value at the low corner and its coefficients.
+-- At the starting basis the table is whole: a form's numbers over 1 are its value at the low corner and its
+-- coefficients.
 use Rattle.std.proofs.Common.{◌≡◌, ◌≢◌, ℕ, zero, suc, ◌+◌, ◌<◌, refl, sym, ◌∙◌, ap, subst, List, [], ◌∷◌, ◌++◌, map, length, arith, zero-add}
 use Rattle.std.specs.Prelude.{ℤ, pos, ◌+ℤ◌, ◌*ℤ◌, slice_index, slice_index_or, All}
 use Rattle.std.specs.List.{AllZip}
@@ -10,14 +11,14 @@ use Rattle.whole_numbers.specs.Fractions.{whole}
 use Rattle.whole_numbers.proofs.Ring.{var, num, ◌⊕◌, ◌⊗◌, ring}
 use Rattle.whole_numbers.specs.Lists.{number_at}
 use Rattle.design_problem.specs.declared.form.Form.{Form}
-use Rattle.design_problem.specs.declared.form.CostBox.{CostBox}
+use Rattle.design_problem.specs.declared.boxes.CostBox.{CostBox}
 use Rattle.design_problem.specs.declared.tree.Member.{Member}
 use Rattle.design_problem.specs.declared.tree.Member.TheVariants.{Low, Row}
 use Rattle.design_problem.specs.Forms.{no_form, value_for_costs}
 use Rattle.design_problem.specs.Boxes.{IsBox}
 use Rattle.design_problem.specs.Basis.{IsFormOf, LeadsPositive, coordinate, forms_of, low_member, member_form, mixture, one_form, unit}
 use Rattle.fraction_table.specs.Tableaus.{FitsBox, starting}
-use Rattle.fraction_rows.specs.Turns.{AreTableRows}
+use Rattle.fraction_lines.specs.Turns.{AreTableLines}
 use Rattle.fraction_table.specs.ValidTables.{AllLong, AreMixtures, IsTableLine, IsTableauOf, Stand, from_lows, high_member, low_forms, members_of_box, number_of_form, numbers_of_form, starting_line}
 use Rattle.fraction_table.proofs.theory.Blends.{listed_at}
 use Rattle.fraction_table.proofs.theory.Lex.{zero_leads}
@@ -73,7 +74,8 @@ number_start n low f zero counted place_in =
 number_start n low f (suc k) counted place_in =
     starts_there n 0 n k k f.coefficients (sym (zero-add k)) (omega (arith, counted)) counted (omega arith)
 
-numbers_start : (n : ℕ) (low : List ℕ) (f : Form) → length f.coefficients ≡ n → numbers_of_form n 1 low (start_rows n 0 n) f ≡ value_for_costs f low ∷ f.coefficients
+numbers_start : (n : ℕ) (low : List ℕ) (f : Form) → length f.coefficients ≡ n →
+    numbers_of_form n 1 low (start_rows n 0 n) f ≡ value_for_costs f low ∷ f.coefficients
 numbers_start n low f counted =
     let ts = value_for_costs f low ∷ f.coefficients in
     map-numbers_from-agree (number_of_form 1 low (start_rows n 0 n) f) (number_at ts) 0 (suc n)
@@ -194,7 +196,7 @@ wholes_stand [] = tt
 wholes_stand (m ∷ ms) = (refl, wholes_stand ms)
 
 starting_lines : (top : ℕ) (costs : CostBox) (rows : List Form) (members : List Member) → All (FitsBox costs) rows →
-    All (IsFormOf costs rows) members → AreTableRows top (suc (length costs.low)) (map (starting_line costs rows) members) →
+    All (IsFormOf costs rows) members → AreTableLines top (suc (length costs.low)) (map (starting_line costs rows) members) →
     AllZip (IsTableLine top 1 costs rows (start_rows (length costs.low) 0 (length costs.low))) members
     (map (starting_line costs rows) members)
 starting_lines top costs rows [] fit are numbers = tt
@@ -212,7 +214,7 @@ starting_lines top costs rows (member ∷ members) fit are numbers = (
 
 pub whole_start : (top : ℕ) (costs : CostBox) (rows : List Form) → IsBox (length costs.low) costs →
     All (FitsBox costs) rows →
-    AreTableRows top (suc (length costs.low)) (map (starting_line costs rows) (members_of_box costs (length rows))) →
+    AreTableLines top (suc (length costs.low)) (map (starting_line costs rows) (members_of_box costs (length rows))) →
     IsTableauOf top costs rows (starting costs) (map (starting_line costs rows) (members_of_box costs (length rows)))
 whole_start top costs rows box fit numbers =
     let n = length costs.low in

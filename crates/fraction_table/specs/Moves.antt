@@ -5,13 +5,13 @@ use Rattle.cost_base.specs.declared.StepName.TheVariants.{Add, Mul, Sub}
 use Rattle.whole_numbers.specs.Fractions.{Fraction, numbers_of_step, minus, plus, times, whole}
 use Rattle.wide_fraction.specs.declared.steps.Wide.{Wide}
 use Rattle.design_problem.specs.declared.form.Form.{Form}
-use Rattle.design_problem.specs.declared.form.CostBox.{CostBox}
+use Rattle.design_problem.specs.declared.boxes.CostBox.{CostBox}
 use Rattle.design_problem.specs.declared.tree.Member.{Member}
 use Rattle.design_problem.specs.declared.tree.Member.TheVariants.{Low, High}
 use Rattle.design_problem.specs.Basis.{entry}
 use Rattle.fraction_table.specs.declared.table.Table.{Table}
-use Rattle.fraction_rows.specs.TableRows.{IsWideStep, nothing}
-use Rattle.fraction_rows.specs.Turns.{AreTableRows}
+use Rattle.fraction_lines.specs.TableLines.{IsWideStep, nothing}
+use Rattle.fraction_lines.specs.Turns.{AreTableLines}
 use Rattle.fraction_table.specs.Tableaus.{IsShiftStep, Shift, moved_basis}
 use Rattle.fraction_table.specs.ValidTables.{HasRoom, members_of_box}
 
@@ -55,7 +55,8 @@ pub record RaisesWide (top : ℕ) (lines : List (List Fraction)) (column : ℕ) 
 -- a step by which the lines are shifted makes a whole number that passes the top
 abbrev pub ShiftsWide : ℕ → Option ℕ → ℕ → Fraction → List (List Fraction) → Wide → Type 0
 ShiftsWide top None own fall lines wide =
-    (wide ≡ record { step = Sub; left = entry (slice_index_or lines own []) 0; right = fall }) × Any (λ n. top < n) (numbers_of_step wide.step wide.left wide.right)
+    (wide ≡ record { step = Sub; left = entry (slice_index_or lines own []) 0; right = fall }) ×
+    Any (λ n. top < n) (numbers_of_step wide.step wide.left wide.right)
 ShiftsWide top (Some column) own fall lines wide = RaisesWide top lines column fall wide
 
 -- the basis with another member in the column, if there is one
@@ -80,12 +81,12 @@ pub record IsShiftedWide (old : Table) (own : ℕ) (before : Member) (fall : ℤ
 pub record HasShape (t : Table) : Type 0 where
   pub high : length t.costs.high ≡ length t.costs.low
   pub basis : length t.basis.items ≡ length t.costs.low
-  pub lines : AreTableRows t.top (suc (length t.costs.low)) t.lines.items
+  pub lines : AreTableLines t.top (suc (length t.costs.low)) t.lines.items
   pub many : length t.lines.items ≡ length (members_of_box t.costs (length t.rows.items))
   pub room : HasRoom t
 
 -- the two tables have one top, the same rows, and as many variables
-pub record KeepsTableRows (old new : Table) : Type 0 where
+pub record KeepsTableLines (old new : Table) : Type 0 where
   pub top : new.top ≡ old.top
   pub rows : new.rows.items ≡ old.rows.items
   pub width : length new.costs.low ≡ length old.costs.low

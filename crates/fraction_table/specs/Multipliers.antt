@@ -10,8 +10,8 @@ use Rattle.design_problem.specs.Steps.{IsStepTooWide, denominators, lcm_of, made
 use Rattle.fraction_table.specs.declared.stage.SimplexStop.{SimplexStop}
 use Rattle.fraction_table.specs.declared.stage.SimplexStop.TheVariants.{TooWide, OutOfMemory}
 use Rattle.fraction_table.specs.declared.table.Table.{Table}
-use Rattle.fraction_rows.specs.Entries.{IsPassing}
-use Rattle.fraction_rows.specs.TableRows.{IsTableNumber}
+use Rattle.fraction_lines.specs.Entries.{IsPassing}
+use Rattle.fraction_lines.specs.TableLines.{IsTableNumber}
 use Rattle.fraction_table.specs.Tableaus.{wide_at}
 
 -- fractions of a member, each with the row's number where the member is a row; none where it is a bound
@@ -39,12 +39,12 @@ abbrev pub common_of : List (ℕ × Fraction) → ℕ
 common_of parts = lcm_of (denominators (fractions parts))
 
 -- a row's number and its multiplier, times a whole number
-abbrev pub whole_part : ℕ → (ℕ × Fraction) → ℕ × ℕ
-whole_part multiple part = (part.0, nat_abs (times part.1 (whole (pos multiple))).numerator)
+abbrev pub whole_multiplier : ℕ → (ℕ × Fraction) → ℕ × ℕ
+whole_multiplier multiple part = (part.0, nat_abs (times part.1 (whole (pos multiple))).numerator)
 
 -- the multipliers of rows as whole numbers: each times the least common multiple of their denominators
-abbrev pub whole_parts : List (ℕ × Fraction) → List (ℕ × ℕ)
-whole_parts parts = map (whole_part (common_of parts)) parts
+abbrev pub whole_multipliers : List (ℕ × Fraction) → List (ℕ × ℕ)
+whole_multipliers parts = map (whole_multiplier (common_of parts)) parts
 
 -- multipliers that are whole numbers, as fractions
 abbrev pub wholes : List (ℕ × ℕ) → List Fraction

@@ -25,9 +25,9 @@ pub record IsShortestNegative (count : ℕ) (rows : List Form) (constant : ℕ �
 abbrev pub row_constant : ℕ → (ℕ → ℤ) → ℕ → ℤ
 row_constant n constant row = constant (n + n + row)
 
--- The pivot form, of the forms x - low and high - x of n variables and of rows, by their constants: the first form x - low
--- with a negative one; where there is none, the first form high - x with one; where there is none either, of the rows
--- with one the row with the fewest terms, of equals the first.
+-- The pivot form, of the forms x - low and high - x of n variables and of rows, by their constants: the first form x -
+-- low with a negative one; where there is none, the first form high - x with one; where there is none either, of the
+-- rows with one the row with the fewest terms, of equals the first.
 pub data IsPivotForm (n : ℕ) (rows : List Form) (constant : ℕ → ℤ) (form : ℕ) : Type 0 where
   of_box : form < n + n → constant form <ℤ pos 0 → NoneNegative form constant → IsPivotForm n rows constant form
   of_rows : (row : ℕ) → form ≡ n + n + row → NoneNegative (n + n) constant →

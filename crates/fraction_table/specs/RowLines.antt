@@ -3,13 +3,13 @@ use Rattle.std.specs.Prelude.{◌≡◌, ℕ, suc, ◌<◌, List, [], ◌∷◌,
 use Rattle.whole_numbers.specs.Fractions.{Fraction}
 use Rattle.wide_fraction.specs.declared.steps.Wide.{Wide}
 use Rattle.design_problem.specs.declared.form.Form.{Form}
-use Rattle.design_problem.specs.declared.form.CostBox.{CostBox}
+use Rattle.design_problem.specs.declared.boxes.CostBox.{CostBox}
 use Rattle.design_problem.specs.Basis.{entry}
 use Rattle.design_problem.specs.Steps.{start_of_sum}
 use Rattle.fraction_table.specs.declared.table.Table.{Table}
-use Rattle.fraction_rows.specs.Entries.{IsPassing}
-use Rattle.fraction_rows.specs.Sums.{IsSumStep, sum_of_terms}
-use Rattle.fraction_rows.specs.TableRows.{AreTableNumbers, blank_row}
+use Rattle.fraction_lines.specs.Entries.{IsPassing}
+use Rattle.fraction_lines.specs.Sums.{IsSumStep, sum_of_terms}
+use Rattle.fraction_lines.specs.TableLines.{AreTableNumbers, blank_line}
 use Rattle.fraction_table.specs.Tableaus.{FitsBox}
 
 -- the sum of a form's terms at a place, by the lines of x - low for each variable
@@ -23,9 +23,9 @@ pub record IsAddedLine (top : ℕ) (costs : CostBox) (form : Form) (lines : List
   pub numbers : AreTableNumbers top line
 
 -- a form that fits the box, with a line of zeros
-pub record IsBlankRow (costs : CostBox) (form : Form) (line : List Fraction) : Type 0 where
+pub record IsBlankLine (costs : CostBox) (form : Form) (line : List Fraction) : Type 0 where
   pub fits : FitsBox costs form
-  pub blank : line ≡ blank_row (length costs.low)
+  pub blank : line ≡ blank_line (length costs.low)
 
 -- a step by which a form's terms are summed up at some place makes a whole number that passes the top
 pub record IsRowStep (top : ℕ) (costs : CostBox) (form : Form) (lines : List (List Fraction)) (wide : Wide) : Type 0 where

@@ -5,21 +5,21 @@ use Rattle.cost_base.specs.Lists.{numbers_from}
 use Rattle.whole_numbers.specs.Fractions.{Fraction, StandsFor, whole}
 use Rattle.whole_numbers.specs.Lists.{number_at}
 use Rattle.design_problem.specs.declared.form.Form.{Form}
-use Rattle.design_problem.specs.declared.form.CostBox.{CostBox}
+use Rattle.design_problem.specs.declared.boxes.CostBox.{CostBox}
 use Rattle.design_problem.specs.declared.tree.Member.{Member}
 use Rattle.design_problem.specs.declared.tree.Member.TheVariants.{Low, High, Row}
 use Rattle.design_problem.specs.Forms.{no_form, value_for_costs}
 use Rattle.design_problem.specs.Boxes.{IsBox}
 use Rattle.design_problem.specs.Basis.{IsBasis, IsFormOf, IsMixture, LeadsPositive, entry, forms_of, low_member, member_form}
-use Rattle.design_problem.specs.Steps.{IsStuck}
-use Rattle.fraction_rows.specs.TableRows.{AreTableNumbers}
+use Rattle.design_problem.specs.Steps.{IsRefutingForm}
+use Rattle.fraction_lines.specs.TableLines.{AreTableNumbers}
 use Rattle.fraction_table.specs.declared.table.Table.{Table}
 use Rattle.fraction_table.specs.declared.stage.Stage.{Stage}
 use Rattle.fraction_table.specs.declared.stage.Stage.TheVariants.{Open, Ended, Stopped}
 use Rattle.fraction_table.specs.declared.stage.Solved.TheVariants.{Feasible, Refuted}
 use Rattle.fraction_table.specs.Tableaus.{FitsBox, Held, IsGoing}
 
--- the sum of the rows' numbers at a place, each times the coefficient of its variable
+-- the sum of the lines' numbers at a place, each times the coefficient of its variable
 abbrev pub from_lows : List ℤ → List (List ℤ) → ℕ → ℤ
 from_lows [] rows place = pos 0
 from_lows (c ∷ cs) [] place = pos 0
@@ -34,7 +34,7 @@ number_of_form D low rows f (suc k) = from_lows f.coefficients rows (suc k)
 abbrev pub numbers_of_form : ℕ → ℕ → List ℕ → List (List ℤ) → Form → List ℤ
 numbers_of_form n D low rows f = map (number_of_form D low rows f) (numbers_from 0 (suc n))
 
--- each row has the length n
+-- each line has the length n
 abbrev pub AllLong : ℕ → List (List ℤ) → Type 0
 AllLong n rows = AllByRecursion (λ ts. length ts ≡ n) rows
 
@@ -102,7 +102,7 @@ starting_line costs rows member =
 abbrev pub IsShown : List Member → List (List Fraction) → Stage → Type 0
 IsShown basis table Open = Unit {0}
 IsShown basis table (Ended Feasible) = All (λ line. pos 0 ≤ℤ (entry line 0).numerator) table
-IsShown basis table (Ended (Refuted form)) = (form < length table) × IsStuck basis (slice_index_or table form [])
+IsShown basis table (Ended (Refuted form)) = (form < length table) × IsRefutingForm basis (slice_index_or table form [])
 IsShown basis table (Stopped wide) = Unit {0}
 
 -- the lines of a struct are the table of its box and its rows at its basis
@@ -113,16 +113,16 @@ IsTableau t = IsTableauOf t.top t.costs t.rows.items t.basis.items t.lines.items
 abbrev pub IsUnboxedTable : Table → Type 0
 IsUnboxedTable t = IsUnboxed t.top t.costs t.rows.items t.basis.items t.lines.items
 
--- the two rows in which a pivot works are as wide as the lines
+-- the two lines in which a pivot works are as wide as the others
 pub record HasRoom (t : Table) : Type 0 where
   pub few : length t.costs.low < 2 ^ 32
   pub quotients : length t.quotients ≡ suc (length t.costs.low)
   pub scratch : length t.scratch ≡ suc (length t.costs.low)
 
 -- Until a step stops it, a tableau's lines are the table of its box and rows at its basis; they show what it found. At
--- all times its basis is one of the box and the rows, and its two work rows are as wide as the lines.
+-- all times its basis is one of the box and the rows, and its two work lines are as wide as the others.
 pub record IsSound (t : Table) (stage : Stage) : Type 0 where
-  pub whole : IsGoing stage → IsTableau t
+  pub tableau : IsGoing stage → IsTableau t
   pub shown : IsShown t.basis.items t.lines.items stage
   pub basis : IsBasis t.costs t.rows.items t.basis.items
   pub room : HasRoom t

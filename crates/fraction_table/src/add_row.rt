@@ -2,27 +2,27 @@
 ghost use Rattle.std.specs.Prelude.{◌≡◌, suc, ◌^◌, ◌<◌, ◌≤◌, [], ◌∷◌, ◌++◌, ◌*ℤ◌, ◌+ℤ◌, ◌≤ℤ◌, length, nat_abs, pos, All, IfErr, IfOk, OnOk};
 ghost use Rattle.design_problem.specs.Forms.{value_for_costs};
 ghost use Rattle.design_problem.specs.Steps.{IsStepTooWide, start_of_sum};
-ghost use Rattle.fraction_table.specs.RowLines.{HasPlace, HoldsRow, HoldsSame, IsAddedLine, IsBlankRow, IsRowStep, sum_at_place};
-ghost use Rattle.fraction_rows.specs.Sums.{AreVariableLines};
-ghost use Rattle.fraction_rows.specs.TableRows.{IsTableNumber, blank_row};
+ghost use Rattle.fraction_table.specs.RowLines.{HasPlace, HoldsRow, HoldsSame, IsAddedLine, IsBlankLine, IsRowStep, sum_at_place};
+ghost use Rattle.fraction_lines.specs.Sums.{AreVariableLines};
+ghost use Rattle.fraction_lines.specs.TableLines.{IsTableNumber, blank_line};
 ghost use Rattle.fraction_table.specs.Tableaus.{FitsBox, wide_at};
-ghost use Rattle.fraction_rows.specs.Turns.{AreTableRows};
+ghost use Rattle.fraction_lines.specs.Turns.{AreTableLines};
 ghost use Rattle.fraction_table.specs.ValidTables.{HasRoom, IsTableau};
 
 use crate::table::Table;
 use cost_base::OutOfMemory;
 use design_problem::{CostBox, Form};
-use fraction_rows::{TableRow, sum_at, sum_lines};
+use fraction_lines::{TableLine, sum_at, sum_lines};
 use std::alloc::Global;
 use wide_fraction::{Frac, Top, Wide};
 
 /// A form, and a line of zeros that is to become its line.
 #[derive(Drop)]
-pub struct BlankRow {
+pub struct BlankLine {
     /// The form of the row that is to be added.
     pub form: Form,
     /// The line of zeros.
-    pub line: TableRow,
+    pub line: TableLine,
 }
 
 /// A coefficient times a lower bound.
@@ -78,13 +78,13 @@ fn start_at(form: &Form, costs: &CostBox, place: u32, top: Top) -> Frac
 fn sum_of_form(
     form: &Form,
     costs: &CostBox,
-    lines: &[TableRow],
+    lines: &[TableLine],
     place: u32,
     top: Top,
 ) -> Result<Frac, Wide>
     // The form fits the box, each variable has a line, and the place is one of a line.
     requires fits { FitsBox costs.now form.now }
-    requires lines { AreTableRows top (suc (length costs.now.low)) lines.now }
+    requires lines { AreTableLines top (suc (length costs.now.low)) lines.now }
     requires many { length costs.now.low ≤ length lines.now }
     requires place { place < suc (length costs.now.low) }
 
@@ -105,10 +105,10 @@ fn sum_of_form(
 ///
 /// `Wide` where a step of one of these sums makes a whole number that passes `top`.
 fn fill_in_order(
-    line: &mut TableRow,
+    line: &mut TableLine,
     form: &Form,
     costs: &CostBox,
-    lines: &[TableRow],
+    lines: &[TableLine],
     top: Top,
 ) -> Result<(), Wide>
     // The form fits the box, which has fewer than 2^32 variables.
@@ -116,9 +116,9 @@ fn fill_in_order(
     requires few { length costs.now.low < 2 ^ 32 }
 
     // Each variable has a line, and the form's line is one of zeros.
-    requires lines { AreTableRows top (suc (length costs.now.low)) lines.now }
+    requires lines { AreTableLines top (suc (length costs.now.low)) lines.now }
     requires many { length costs.now.low ≤ length lines.now }
-    requires blank { line.old ≡ blank_row (length costs.now.low) }
+    requires blank { line.old ≡ blank_line (length costs.now.low) }
 
     // On Ok the line has the form's sum at each place; else a step of such a sum is too wide.
     ensures line { OnOk result (IsAddedLine top costs.now form.now lines.now line.new) }
@@ -141,14 +141,14 @@ fn fill_in_order(
 /// `Wide` where a step of one of the sums makes a whole number that passes `top`; which one is found first depends on
 /// the order.
 fn gather_line(
-    row: &mut BlankRow,
+    row: &mut BlankLine,
     costs: &CostBox,
-    lines: &[TableRow],
-    scratch: &mut TableRow,
+    lines: &[TableLine],
+    scratch: &mut TableLine,
     top: Top,
 ) -> Result<(), Wide>
     // The row's form fits the box, its line is one of zeros, and each variable has a line.
-    requires row { IsBlankRow costs.now row.old.form row.old.line }
+    requires row { IsBlankLine costs.now row.old.form row.old.line }
     requires lines { AreVariableLines top (suc (length costs.now.low)) (length costs.now.low)
         lines.now }
     requires scratch { length scratch.old ≡ suc (length costs.now.low) }
@@ -172,14 +172,14 @@ fn gather_line(
 ///
 /// `Wide` where a step of one of the sums makes a whole number that passes `top`.
 fn fill_line(
-    row: &mut BlankRow,
+    row: &mut BlankLine,
     costs: &CostBox,
-    lines: &[TableRow],
-    scratch: &mut TableRow,
+    lines: &[TableLine],
+    scratch: &mut TableLine,
     top: Top,
 ) -> Result<(), Wide>
     // The row's form fits the box, its line is one of zeros, and each variable has a line.
-    requires row { IsBlankRow costs.now row.old.form row.old.line }
+    requires row { IsBlankLine costs.now row.old.form row.old.line }
     requires few { length costs.now.low < 2 ^ 32 }
     requires lines { AreVariableLines top (suc (length costs.now.low)) (length costs.now.low)
         lines.now }
@@ -208,18 +208,18 @@ impl Table {
     /// # Errors
     ///
     /// `OutOfMemory` where something got no memory. Then the table holds what it held.
-    pub fn make_room(&mut self, alloc: Global, form: &Form) -> Result<BlankRow, OutOfMemory>
+    pub fn make_room(&mut self, alloc: Global, form: &Form) -> Result<BlankLine, OutOfMemory>
         requires few { length self.old.costs.low < 2 ^ 32 }
         ensures same { HoldsSame self.old self.new }
         ensures place { OnOk result (HasPlace self.new) }
         ensures form { IfOk result (λ row. row.form ≡ form.now) }
-        ensures blank { IfOk result (λ row. row.line ≡ blank_row (length self.old.costs.low)) }
+        ensures blank { IfOk result (λ row. row.line ≡ blank_line (length self.old.costs.low)) }
     {
         let copy = form.copy(alloc)?;
-        let line = TableRow::zero(alloc, self.costs.low.as_slice().len() as u32)?;
+        let line = TableLine::zero(alloc, self.costs.low.as_slice().len() as u32)?;
         self.rows.reserve(1)?;
         self.lines.reserve(1)?;
-        Ok(BlankRow { form: copy, line })
+        Ok(BlankLine { form: copy, line })
     }
 
     /// Adds a row for which there is room, with its line at the present basis.
@@ -227,19 +227,19 @@ impl Table {
     /// # Errors
     ///
     /// `Wide` where a step of the line makes a whole number that passes `top`. The row was added nevertheless.
-    pub fn put_row(&mut self, row: BlankRow) -> Result<(), Wide>
+    pub fn put_row(&mut self, row: BlankLine) -> Result<(), Wide>
         // The lines are the table at the basis, and there is a place for one more row.
-        requires whole { IsTableau self.old }
+        requires tableau { IsTableau self.old }
         requires room { HasRoom self.old }
         requires place { HasPlace self.old }
 
         // The row's form fits the box, and its line is one of zeros.
         requires fits { FitsBox self.old.costs row.form }
-        requires blank { row.line ≡ blank_row (length self.old.costs.low) }
+        requires blank { row.line ≡ blank_line (length self.old.costs.low) }
 
         // The row is added in any case, and on Ok the lines are the table at the basis again.
         ensures holds { HoldsRow self.old row.form self.new }
-        ensures whole { OnOk result (IsTableau self.new) }
+        ensures tableau { OnOk result (IsTableau self.new) }
 
         // On Err a step at the basis is too wide.
         ensures wide { IfErr result (λ wide. IsStepTooWide self.new.top self.new.costs
@@ -249,19 +249,19 @@ impl Table {
         let lines = self.lines.as_slice();
         let scratch = &mut self.scratch;
         let filled = fill_line(&mut row, &self.costs, lines, scratch, self.top);
-        let BlankRow { form, line } = row;
+        let BlankLine { form, line } = row;
         self.rows.push_reserved(form);
         self.lines.push_reserved(line);
         filled
     }
 
     /// Adds a row for which there is room, with its line of zeros.
-    pub fn put_blank(&mut self, row: BlankRow)
+    pub fn put_blank(&mut self, row: BlankLine)
         requires place { HasPlace self.old }
         ensures holds { HoldsRow self.old row.form self.new }
         ensures lines { self.new.lines.items ≡ self.old.lines.items ++ row.line ∷ [] }
     {
-        let BlankRow { form, line } = row;
+        let BlankLine { form, line } = row;
         self.rows.push_reserved(form);
         self.lines.push_reserved(line);
     }

@@ -5,19 +5,19 @@ ghost use Rattle.whole_numbers.specs.Fractions.{IsLowest, divided};
 ghost use Rattle.wide_fraction.specs.Widths.{IsWithin};
 ghost use Rattle.design_problem.specs.Basis.{entry};
 ghost use Rattle.design_problem.specs.Steps.{IsPivot, IsStepTooWide};
-ghost use Rattle.fraction_rows.specs.TableRows.{AreTableNumbers};
-ghost use Rattle.fraction_rows.specs.Entries.{IsPassing};
+ghost use Rattle.fraction_lines.specs.TableLines.{AreTableNumbers};
+ghost use Rattle.fraction_lines.specs.Entries.{IsPassing};
 ghost use Rattle.fraction_table.specs.Pivots.{IsBestBelow, IsOrdered, entries_order, line_at};
 ghost use Rattle.fraction_table.specs.Tableaus.{wide_at};
 ghost use Rattle.fraction_table.specs.ValidTables.{HasRoom, IsTableau};
 
 use crate::table::Table;
-use fraction_rows::TableRow;
+use fraction_lines::TableLine;
 use std::cmp::Ordering;
 use wide_fraction::{Frac, Top, Wide, cmp, div, mul};
 
 /// The quotient of the entries in the other column and in the column.
-fn entry_quotient(line: &TableRow, column: u32, other: u32, top: Top) -> Result<Frac, Wide>
+fn entry_quotient(line: &TableLine, column: u32, other: u32, top: Top) -> Result<Frac, Wide>
     // The line has both columns, and the divisor, its entry in the first, isn't 0.
     requires column { suc column < length line.now }
     requires other { suc other < length line.now }
@@ -43,7 +43,7 @@ fn entry_quotient(line: &TableRow, column: u32, other: u32, top: Top) -> Result<
 /// How the entry in the other column stands to the one in the column, times the quotient. No step is taken where both
 /// are 0.
 fn entry_order(
-    line: &TableRow,
+    line: &TableLine,
     column: u32,
     other: u32,
     quotient: Frac,
@@ -92,7 +92,7 @@ impl Table {
     /// `Wide` where a step of this makes a whole number that passes `top`.
     fn precedes(&self, line: usize, column: u32, other: u32) -> Result<bool, Wide>
         // A pivot may be made on the line at either column.
-        requires whole { IsTableau self.now }
+        requires tableau { IsTableau self.now }
         requires line { line < length self.now.lines.items }
         requires column { IsPivot self.now.basis.items (line_at self.now line) (suc column) }
         requires other { IsPivot self.now.basis.items (line_at self.now line) (suc other) }
@@ -119,7 +119,7 @@ impl Table {
     /// The better of the best column so far and one more in which the line has a positive entry.
     fn better(&self, line: usize, best: Option<u32>, column: u32) -> Result<u32, Wide>
         // A pivot may be made on the line at the column, and `best` is the best one before it.
-        requires whole { IsTableau self.now }
+        requires tableau { IsTableau self.now }
         requires line { line < length self.now.lines.items }
         requires column { IsPivot self.now.basis.items (line_at self.now line) (suc column) }
         requires best { IsBestBelow self.now line column best }
@@ -142,7 +142,7 @@ impl Table {
     /// The best column so far, once one more was looked at.
     fn look_at(&self, line: usize, best: Option<u32>, column: u32) -> Result<Option<u32>, Wide>
         // The line is one of the table, with a negative constant.
-        requires whole { IsTableau self.now }
+        requires tableau { IsTableau self.now }
         requires line { line < length self.now.lines.items }
         requires below { (entry (line_at self.now line) 0).numerator <ℤ pos 0 }
 
@@ -172,7 +172,7 @@ impl Table {
     /// `Wide` where a step of a comparison makes a whole number that passes `top`.
     pub fn choose(&self, line: usize) -> Result<Option<u32>, Wide>
         // The line is one of the table, with a negative constant.
-        requires whole { IsTableau self.now }
+        requires tableau { IsTableau self.now }
         requires room { HasRoom self.now }
         requires line { line < length self.now.lines.items }
         requires below { (entry (line_at self.now line) 0).numerator <ℤ pos 0 }

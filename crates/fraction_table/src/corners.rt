@@ -6,7 +6,7 @@ ghost use Rattle.design_problem.specs.Earnest.{IsLeastPoint};
 ghost use Rattle.design_problem.specs.Steps.{IsStepTooWide, lcm_of, two_to_27};
 ghost use Rattle.design_problem.specs.Forms.{AreMet};
 ghost use Rattle.fraction_table.specs.Corners.{corner_entry, denominators_of, raised_by};
-ghost use Rattle.fraction_rows.specs.Entries.{IsPassing};
+ghost use Rattle.fraction_lines.specs.Entries.{IsPassing};
 ghost use Rattle.fraction_table.specs.Pivots.{AreHigh};
 ghost use Rattle.fraction_table.specs.Tableaus.{wide_at};
 ghost use Rattle.fraction_table.specs.ValidTables.{IsTableau};
@@ -59,7 +59,7 @@ impl Table {
     ///
     /// `Wide` where a multiple on the way passes `top`.
     fn common_denominator(&self) -> Result<i128, Wide>
-        requires whole { IsTableau self.now }
+        requires tableau { IsTableau self.now }
         ensures multiple { IfOk result
             (λ multiple. multiple ≡ pos (lcm_of (denominators_of self.now))) }
         ensures within { IfOk result (λ multiple. nat_abs multiple ≤ self.now.top) }
@@ -82,7 +82,7 @@ impl Table {
     ///
     /// `Wide` where a step of this makes a whole number that passes `top`.
     fn corner_scale(&self) -> Result<u128, Wide>
-        requires whole { IsTableau self.now }
+        requires tableau { IsTableau self.now }
         ensures common { IfOk result (λ scale. scale ≡ lcm_of (denominators_of self.now)) }
         ensures small { IfOk result (λ scale. scale < 2 ^ 100) }
         ensures wide { IfErr result (λ wide. IsStepTooWide self.now.top self.now.costs
@@ -95,7 +95,7 @@ impl Table {
     /// Puts the values of the corner, times the scale.
     fn put_corner_values(&self, scale: u128, into: &mut Listed<u128>)
         // No constant of the table is negative.
-        requires whole { IsTableau self.now }
+        requires tableau { IsTableau self.now }
         requires high { AreHigh self.now }
 
         // The scale is the least common denominator of the constants of x - low, and below 2^100.
@@ -126,7 +126,7 @@ impl Table {
     /// `Wide` where a step of this makes a whole number that passes `top`; then `into` is as before.
     pub fn put_corner(&self, into: &mut Point) -> Result<(), Wide>
         // No constant of the table is negative, and the point has a place for each variable.
-        requires whole { IsTableau self.now }
+        requires tableau { IsTableau self.now }
         requires high { AreHigh self.now }
         requires places { length into.old.values ≡ length self.now.costs.low }
 

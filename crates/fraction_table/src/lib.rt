@@ -1,7 +1,7 @@
 //! The table of a box of costs and rows in checked fractions, and the lexicographic dual simplex over it.
 //!
-//! Pivots keep the equations of forms, columns stay lexicographically positive, constants rise, a stuck form refutes, a
-//! corner is least: this theory stands in `proofs`.
+//! Pivots keep the equations of forms, columns stay lexicographically positive, constants rise, a refuting form
+//! refutes, a corner is least: this theory stands in `proofs`.
 #![tactic(auto)]
 
 mod add_row;
@@ -17,7 +17,7 @@ mod stage;
 mod start;
 mod table;
 
-pub use add_row::{BlankRow, corner_value};
+pub use add_row::{BlankLine, corner_value};
 pub use fit::{fit_box, fits_box, is_box};
 pub use moves::column_of;
 pub use multipliers::{put_fraction, put_negated, whole_multipliers};

@@ -1,13 +1,13 @@
 //! The move of a table to another box, bound by bound.
 ghost use Rattle.std.specs.Prelude.{◌≡◌, ℕ, suc, ◌^◌, ◌<◌, length, map, nat_abs, slice_set, IfErr, IfSome, OnErr, OnOk};
-ghost use Rattle.fraction_table.specs.Moves.{HasBoundCounts, HasShape, IsColumnOf, IsMoved, IsRaiseStep, IsTableShifted, IsShiftedWide, IsWideShift, KeepsTableRows, RaisesWide};
+ghost use Rattle.fraction_table.specs.Moves.{HasBoundCounts, HasShape, IsColumnOf, IsMoved, IsRaiseStep, IsTableShifted, IsShiftedWide, IsWideShift, KeepsTableLines, RaisesWide};
 ghost use Rattle.fraction_table.specs.Moves.{ShiftsWide, high_shift_of, low_shift_of, put_at, raised_line, shifted_lines};
 ghost use Rattle.fraction_table.specs.Pivots.{KeepsBoxAndRows};
-ghost use Rattle.fraction_rows.specs.TableRows.{AreTableNumbers, IsTableNumber, IsWideStep};
-ghost use Rattle.fraction_rows.specs.Entries.{IsPassing};
+ghost use Rattle.fraction_lines.specs.TableLines.{AreTableNumbers, IsTableNumber, IsWideStep};
+ghost use Rattle.fraction_lines.specs.Entries.{IsPassing};
 ghost use Rattle.cost_base.specs.declared.StepName.TheVariants.{Sub};
 ghost use Rattle.whole_numbers.specs.Fractions.{minus};
-ghost use Rattle.fraction_rows.specs.Turns.{AreTableRows};
+ghost use Rattle.fraction_lines.specs.Turns.{AreTableLines};
 ghost use Rattle.fraction_table.specs.ValidTables.{HasRoom, IsUnboxedTable, held_of};
 ghost use Rattle.fraction_table.specs.Tableaus.{IsWideMove};
 ghost use Rattle.fraction_table.specs.declared.stage.Stage.TheVariants.{Open};
@@ -17,7 +17,7 @@ ghost use Rattle.design_problem.specs.Boxes.{with_high, with_low};
 use crate::start::range_of;
 use crate::table::Table;
 use design_problem::{CostBox, Member};
-use fraction_rows::TableRow;
+use fraction_lines::TableLine;
 use wide_fraction::{Frac, Top, Wide, add, mul, sub};
 
 /// Puts a line's entry in the column, times the fall, to its constant. No step is taken where the entry is 0.
@@ -25,7 +25,7 @@ use wide_fraction::{Frac, Top, Wide, add, mul, sub};
 /// # Errors
 ///
 /// `Wide` where one of the two steps makes a whole number that passes `top`. Then the line is as before.
-fn raise_constant(line: &mut TableRow, column: u32, fall: Frac, top: Top) -> Result<(), Wide>
+fn raise_constant(line: &mut TableLine, column: u32, fall: Frac, top: Top) -> Result<(), Wide>
     // The line has the column, and the fall is a number of the table.
     requires column { suc column < length line.old }
     requires numbers { AreTableNumbers top line.old }
@@ -57,17 +57,17 @@ fn raise_constant(line: &mut TableRow, column: u32, fall: Frac, top: Top) -> Res
 /// # Errors
 ///
 /// `Wide` where a step of some line makes a whole number that passes `top`.
-fn raise_constants(lines: &mut [TableRow], column: u32, fall: Frac, top: Top) -> Result<(), Wide>
+fn raise_constants(lines: &mut [TableLine], column: u32, fall: Frac, top: Top) -> Result<(), Wide>
     // The lines have one width and the column, and the fall is a number of the table.
-    requires lines { (count : ℕ) × (suc column < count) × AreTableRows top count lines.old }
+    requires lines { (count : ℕ) × (suc column < count) × AreTableLines top count lines.old }
     requires fall { IsTableNumber top fall }
 
     // On Ok the constant of each line rose by its entry times the fall.
     ensures raised { OnOk result (lines.new ≡ map (raised_line column fall) lines.old) }
 
     // In any case there are as many lines, each of as many numbers of the table.
-    ensures numbers { (count : ℕ) → AreTableRows top count lines.old →
-        AreTableRows top count lines.new }
+    ensures numbers { (count : ℕ) → AreTableLines top count lines.old →
+        AreTableLines top count lines.new }
     ensures count { length lines.new ≡ length lines.old }
 
     // On Err the step raises some line's constant, and makes a number that passes the top.
@@ -84,7 +84,7 @@ fn raise_constants(lines: &mut [TableRow], column: u32, fall: Frac, top: Top) ->
 /// # Errors
 ///
 /// `Wide` where the difference makes a whole number that passes `top`. Then the line is as before.
-fn lower_constant(line: &mut TableRow, fall: Frac, top: Top) -> Result<(), Wide>
+fn lower_constant(line: &mut TableLine, fall: Frac, top: Top) -> Result<(), Wide>
     // The line has a constant, and the fall is a number of the table.
     requires some { 0 < length line.old }
     requires numbers { AreTableNumbers top line.old }
@@ -118,7 +118,7 @@ fn lower_constant(line: &mut TableRow, fall: Frac, top: Top) -> Result<(), Wide>
 ///
 /// `Wide` where a step makes a whole number that passes `top`.
 fn shift_lines(
-    lines: &mut [TableRow],
+    lines: &mut [TableLine],
     own: usize,
     column: Option<u32>,
     fall: Frac,
@@ -127,15 +127,15 @@ fn shift_lines(
     // The form's own line is one of the lines, which have one width and the column, if any.
     requires own { own < length lines.old }
     requires lines { (count : ℕ) × (0 < count) × IfSome column (λ k. suc k < count) ×
-        AreTableRows top count lines.old }
+        AreTableLines top count lines.old }
     requires fall { IsTableNumber top fall }
 
     // On Ok the form's own constant fell, or those of the other lines rose.
     ensures shifted { OnOk result (lines.new ≡ shifted_lines column own fall lines.old) }
 
     // In any case there are as many lines, each of as many numbers of the table.
-    ensures numbers { (count : ℕ) → AreTableRows top count lines.old →
-        AreTableRows top count lines.new }
+    ensures numbers { (count : ℕ) → AreTableLines top count lines.old →
+        AreTableLines top count lines.new }
     ensures count { length lines.new ≡ length lines.old }
 
     // On Err the step is one of the shift, and makes a number that passes the top.
@@ -223,7 +223,7 @@ impl Table {
 
         // In any case the table keeps its shape and its rows.
         ensures shape { HasShape self.new }
-        ensures keeps { KeepsTableRows self.old self.new }
+        ensures keeps { KeepsTableLines self.old self.new }
 
         // On Err a step of the shift of that bound is too wide.
         ensures wide { IfErr result (λ wide. IsWideShift self.old (low_shift_of self.old var bound)
@@ -258,7 +258,7 @@ impl Table {
 
         // In any case the table keeps its shape and its rows.
         ensures shape { HasShape self.new }
-        ensures keeps { KeepsTableRows self.old self.new }
+        ensures keeps { KeepsTableLines self.old self.new }
 
         // On Err a step of the shift of that bound is too wide.
         ensures wide { IfErr result (λ wide. IsWideShift self.old (high_shift_of self.old var bound)
@@ -299,7 +299,7 @@ impl Table {
 
         // In any case the table keeps its shape and its rows.
         ensures shape { HasShape self.new }
-        ensures keeps { KeepsTableRows self.old self.new }
+        ensures keeps { KeepsTableLines self.old self.new }
 
         // On Err a step of the shift of some bound is too wide.
         ensures wide { OnErr result (IsWideMove (held_of self.old Open) costs.now) }

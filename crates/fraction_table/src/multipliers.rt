@@ -4,17 +4,17 @@ ghost use Rattle.std.specs.List.Sorted.{IsPermutation};
 ghost use Rattle.whole_numbers.specs.Fractions.{sum_of};
 ghost use Rattle.wide_fraction.specs.Widths.{IsWithin};
 ghost use Rattle.design_problem.specs.Boxes.{Refutes};
-ghost use Rattle.design_problem.specs.Steps.{IsStuck, unless_zero};
-ghost use Rattle.fraction_rows.specs.Entries.{AllNumbers, IsPassing};
+ghost use Rattle.design_problem.specs.Steps.{IsRefutingForm, unless_zero};
+ghost use Rattle.fraction_lines.specs.Entries.{AllNumbers, IsPassing};
 ghost use Rattle.fraction_table.specs.Multipliers.{AreParts, IsMultiplierStep, IsTallyStep, IsWideAtBasis, IsWideMultiplier, common_of};
-ghost use Rattle.fraction_table.specs.Multipliers.{fractions, fractions_of, numbered, whole_parts, wholes};
+ghost use Rattle.fraction_table.specs.Multipliers.{fractions, fractions_of, numbered, whole_multipliers, wholes};
 ghost use Rattle.fraction_table.specs.Pivots.{line_at, member_at};
 ghost use Rattle.fraction_table.specs.ValidTables.{HasRoom, IsTableau};
 
 use crate::SimplexStop;
 use crate::table::Table;
 use cost_base::OutOfMemory;
-use design_problem::{Member, Parts};
+use design_problem::{Member, Multipliers};
 use std::alloc::Global;
 use wide_fraction::{Frac, Top, Wide, add, lcm, mul, scale};
 
@@ -96,7 +96,7 @@ fn made_parts(
     requires within { nat_abs multiple ≤ top }
 
     // On Ok the multipliers are whole numbers, and each is within the top.
-    ensures exact { IfOk result (λ made. made.items ≡ whole_parts parts.now) }
+    ensures exact { IfOk result (λ made. made.items ≡ whole_multipliers parts.now) }
     ensures within { IfOk result (λ made. All (λ part. part.1 ≤ top) made.items) }
 
     // On Err a step that makes whole numbers of them is too wide, unless it was want of memory.
@@ -163,9 +163,9 @@ pub fn whole_multipliers(
     alloc: Global,
     parts: &[(u64, Frac)],
     top: Top,
-) -> Result<Parts, SimplexStop>
+) -> Result<Multipliers, SimplexStop>
     requires parts { AreParts top parts.now }
-    ensures made { IfOk result (IsPermutation (whole_parts parts.now)) }
+    ensures made { IfOk result (IsPermutation (whole_multipliers parts.now)) }
     ensures small { IfOk result (λ made. sum_by (λ part. part.1) made < 2 ^ 100) }
     ensures wide { IfErr result (IsWideMultiplier top (fractions parts.now)) }
 {
@@ -173,7 +173,7 @@ pub fn whole_multipliers(
     let mut made = made_parts(alloc, parts, multiple, top)?;
     check_sum(made.as_slice(), top)?;
     made.sort_unstable_by_key(|part| part.0);
-    Ok(Parts::from_items(made))
+    Ok(Multipliers::from_items(made))
 }
 
 impl Table {
@@ -184,7 +184,7 @@ impl Table {
     ///
     /// `OutOfMemory` where the list got no memory.
     fn fractions(&self, alloc: Global, line: usize) -> Result<Vec<(u64, Frac)>, OutOfMemory>
-        requires whole { IsTableau self.now }
+        requires tableau { IsTableau self.now }
         requires room { HasRoom self.now }
         requires line { line < length self.now.lines.items }
         ensures { IfOk result (λ parts. parts.items ≡ fractions_of self.now.basis.items
@@ -199,17 +199,17 @@ impl Table {
         Ok(parts)
     }
 
-    /// Whole multipliers of rows that refute the box, by a line that is stuck.
+    /// Whole multipliers of rows that refute the box, by a refuting form.
     ///
     /// # Errors
     ///
     /// `TooWide` where a step makes a whole number that passes `top`; `OutOfMemory`.
-    pub fn multipliers(&self, alloc: Global, line: usize) -> Result<Parts, SimplexStop>
+    pub fn multipliers(&self, alloc: Global, line: usize) -> Result<Multipliers, SimplexStop>
         // The line is one of the table, and its form can't be made non-negative.
-        requires whole { IsTableau self.now }
+        requires tableau { IsTableau self.now }
         requires room { HasRoom self.now }
         requires line { line < length self.now.lines.items }
-        requires stuck { IsStuck self.now.basis.items (line_at self.now line) }
+        requires refuting { IsRefutingForm self.now.basis.items (line_at self.now line) }
 
         // On Ok the multipliers refute the box, with at most one row more than there are variables.
         ensures refutes { IfOk result (λ parts. Refutes self.now.rows.items parts self.now.costs) }

@@ -4,9 +4,9 @@ ghost use Rattle.whole_numbers.specs.Fractions.{whole};
 ghost use Rattle.design_problem.specs.Basis.{IsFormOf, unit};
 ghost use Rattle.design_problem.specs.Boxes.{IsBox};
 ghost use Rattle.design_problem.specs.Forms.{value_for_costs};
-ghost use Rattle.fraction_table.specs.Moves.{HasShape, KeepsAllButLines, KeepsTableRows};
+ghost use Rattle.fraction_table.specs.Moves.{HasShape, KeepsAllButLines, KeepsTableLines};
 ghost use Rattle.fraction_table.specs.Pivots.{member_at};
-ghost use Rattle.fraction_rows.specs.TableRows.{AreTableNumbers};
+ghost use Rattle.fraction_lines.specs.TableLines.{AreTableNumbers};
 ghost use Rattle.fraction_table.specs.declared.stage.Stage.TheVariants.{Open};
 ghost use Rattle.fraction_table.specs.Tableaus.{FitsBox, IsRebased, starting};
 ghost use Rattle.fraction_table.specs.ValidTables.{HasRoom, IsTableau, held_of, members_of_box, starting_line};
@@ -16,11 +16,11 @@ use crate::start::{UnitForm, put_unit_line, range_of};
 use crate::table::Table;
 use cost_base::Listed;
 use design_problem::{CostBox, Form, Member};
-use fraction_rows::TableRow;
+use fraction_lines::TableLine;
 use wide_fraction::{Frac, Top};
 
 /// Makes the line the starting one of a row's form: its value at the low corner, and its coefficients.
-fn put_form_line(line: &mut TableRow, form: &Form, costs: &CostBox, top: Top)
+fn put_form_line(line: &mut TableLine, form: &Form, costs: &CostBox, top: Top)
     requires fits { FitsBox costs.now form.now }
     requires few { length costs.now.low < 2 ^ 32 }
     requires width { length line.old ≡ suc (length costs.now.low) }
@@ -39,7 +39,7 @@ fn put_form_line(line: &mut TableRow, form: &Form, costs: &CostBox, top: Top)
 }
 
 /// Makes the line the starting one of a form of the box.
-fn put_line(line: &mut TableRow, member: Member, costs: &CostBox, rows: &[Form], top: Top)
+fn put_line(line: &mut TableLine, member: Member, costs: &CostBox, rows: &[Form], top: Top)
     // The member is one of the box and its rows, and all rows fit the box.
     requires form { IsFormOf costs.now rows.now member }
     requires ranges { IsBox (length costs.now.low) costs.now }
@@ -150,13 +150,13 @@ impl Table {
         requires fits { All (FitsBox costs.now) self.old.rows.items }
 
         // The lines are the table at the basis, with room for pivots.
-        ensures whole { IsTableau self.new }
+        ensures tableau { IsTableau self.new }
         ensures room { HasRoom self.new }
 
         // It has the new box, at its starting basis, and the rows that it had.
         ensures costs { self.new.costs ≡ costs.now }
         ensures basis { self.new.basis.items ≡ starting costs.now }
-        ensures keeps { KeepsTableRows self.old self.new }
+        ensures keeps { KeepsTableLines self.old self.new }
     {
         put_bounds(&mut self.costs.low, costs.low.as_slice());
         put_bounds(&mut self.costs.high, costs.high.as_slice());
@@ -168,13 +168,13 @@ impl Table {
     /// no memory.
     pub fn rebase(&mut self, costs: &CostBox)
         // The lines are the table at the basis, the new box is one of its variables, and the rows fit it.
-        requires whole { IsTableau self.old }
+        requires tableau { IsTableau self.old }
         requires room { HasRoom self.old }
         requires ranges { IsBox (length self.old.costs.low) costs.now }
         requires fits { All (FitsBox costs.now) self.old.rows.items }
 
         // The lines are the table at the basis again, with room for pivots.
-        ensures whole { IsTableau self.new }
+        ensures tableau { IsTableau self.new }
         ensures room { HasRoom self.new }
 
         // The basis keeps its members, or is the starting one where a step of the move is too wide.

@@ -22,7 +22,7 @@ impl Table {
 
     /// The first form of the box with a negative constant: one x - low, or, where there is none, one high - x.
     fn first_negative_bound(&self) -> Option<usize>
-        requires whole { IsTableau self.now }
+        requires tableau { IsTableau self.now }
         requires room { HasRoom self.now }
         ensures { IsFirstFound (length self.now.costs.low + length self.now.costs.low)
             (sign_at self.now) result }
@@ -38,7 +38,7 @@ impl Table {
 
     /// The shortest row so far with a negative constant, once one more was looked at.
     fn look_at_row(&self, shortest: Option<usize>, row: usize) -> Option<usize>
-        requires whole { IsTableau self.now }
+        requires tableau { IsTableau self.now }
         requires room { HasRoom self.now }
         requires row { row < length self.now.rows.items }
         requires shortest { IsShortestFound row self.now.rows.items
@@ -59,7 +59,7 @@ impl Table {
 
     /// Of the rows with a negative constant the one with the fewest terms, of equals the first.
     fn shortest_negative_row(&self) -> Option<usize>
-        requires whole { IsTableau self.now }
+        requires tableau { IsTableau self.now }
         requires room { HasRoom self.now }
         ensures { IsShortestFound (length self.now.rows.items) self.now.rows.items
             (row_constant (length self.now.costs.low) (sign_at self.now)) result }
@@ -74,7 +74,7 @@ impl Table {
     /// The pivot form, by its line: the first form x - low with a negative constant, else the first form high - x with
     /// one, else of the rows with one the row with the fewest terms, of equals the first.
     pub fn pivot_form(&self) -> Option<usize>
-        requires whole { IsTableau self.now }
+        requires tableau { IsTableau self.now }
         requires room { HasRoom self.now }
         ensures { IsPivotFormFound (length self.now.costs.low) self.now.rows.items
             (sign_at self.now) result }
@@ -93,12 +93,12 @@ impl Table {
     /// entry in it.
     fn raise(&mut self, line: usize) -> Result<Option<Solved>, Wide>
         // The lines are the table at the basis, and the line is that of its pivot form.
-        requires whole { IsTableau self.old }
+        requires tableau { IsTableau self.old }
         requires room { HasRoom self.old }
         requires due { IsPivotLine self.old line }
 
         // On Ok the lines are the table at the basis again; it shows the answer, or its rank rose.
-        ensures whole { OnOk result (IsTableau self.new) }
+        ensures tableau { OnOk result (IsTableau self.new) }
         ensures ahead { IfOk result (λ solved. IsAhead self.old self.new solved) }
 
         // In any case it has the same box and rows, and room for pivots.
@@ -125,11 +125,11 @@ impl Table {
     /// `Wide` where the step makes a whole number that passes the top; it is one at the basis that is left.
     pub fn advance(&mut self) -> Result<Option<Solved>, Wide>
         // The lines are the table at the basis, with room for pivots.
-        requires whole { IsTableau self.old }
+        requires tableau { IsTableau self.old }
         requires room { HasRoom self.old }
 
         // On Ok the lines are the table at the basis again; it shows the answer, or its rank rose.
-        ensures whole { OnOk result (IsTableau self.new) }
+        ensures tableau { OnOk result (IsTableau self.new) }
         ensures ahead { IfOk result (λ solved. IsAhead self.old self.new solved) }
 
         // In any case it has the same box and rows, and room for pivots.

@@ -5,28 +5,18 @@ ghost use Rattle.whole_numbers.specs.Fractions.{whole};
 ghost use Rattle.design_problem.specs.declared.tree.Member.TheVariants.{Low};
 ghost use Rattle.design_problem.specs.Basis.{unit};
 ghost use Rattle.design_problem.specs.Boxes.{IsBox};
-ghost use Rattle.fraction_rows.specs.TableRows.{AreTableNumbers};
-ghost use Rattle.fraction_rows.specs.Turns.{AreTableRows};
+ghost use Rattle.fraction_lines.specs.TableLines.{AreTableNumbers};
+ghost use Rattle.fraction_lines.specs.Turns.{AreTableLines};
 ghost use Rattle.fraction_table.specs.declared.stage.Stage.TheVariants.{Open};
 ghost use Rattle.fraction_table.specs.Tableaus.{starting};
 ghost use Rattle.fraction_table.specs.ValidTables.{IsSound, held_of, members_of_box, starting_line};
 
 use crate::table::Table;
-use cost_base::OutOfMemory;
+use cost_base::{OutOfMemory, push_last};
 use design_problem::{CostBox, Member};
-use fraction_rows::TableRow;
+use fraction_lines::TableLine;
 use std::alloc::Global;
 use wide_fraction::{Frac, Top};
-
-/// An equal box.
-pub fn copy_box(alloc: Global, costs: &CostBox) -> Result<CostBox, OutOfMemory>
-    ensures { IfOk result (λ copy. copy ≡ costs.now) }
-{
-    Ok(CostBox {
-        low: costs.low.copy(alloc)?,
-        high: costs.high.copy(alloc)?,
-    })
-}
 
 /// The forms x - low, by the lower bounds.
 pub fn starting_basis(alloc: Global, low: &[u16]) -> Result<Vec<Member>, OutOfMemory>
@@ -54,7 +44,7 @@ pub struct UnitForm {
 
 /// Makes the line the starting one of a form with one coefficient: its constant there, and the coefficient in its
 /// column.
-pub fn put_unit_line(line: &mut TableRow, width: u32, form: UnitForm, top: Top)
+pub fn put_unit_line(line: &mut TableLine, width: u32, form: UnitForm, top: Top)
     // The line has a column for the form's variable.
     requires width { length line.old ≡ suc width }
     requires var { form.var < width }
@@ -76,36 +66,30 @@ pub fn put_unit_line(line: &mut TableRow, width: u32, form: UnitForm, top: Top)
 }
 
 /// The starting line of a form with one coefficient: its constant there, and the coefficient in its column.
-fn bound_row(alloc: Global, width: u32, form: UnitForm, top: Top) -> Result<TableRow, OutOfMemory>
+fn bound_line(alloc: Global, width: u32, form: UnitForm, top: Top) -> Result<TableLine, OutOfMemory>
     requires var { form.var < width }
     requires constant_small { nat_abs form.constant < 2 ^ 27 }
     requires coefficient_small { nat_abs form.coefficient < 2 ^ 27 }
-    ensures row { IfOk result (λ row. row ≡ whole form.constant ∷
+    ensures line { IfOk result (λ line. line ≡ whole form.constant ∷
         map whole (unit width form.var form.coefficient)) }
-    ensures numbers { IfOk result (λ row. AreTableNumbers top row) }
+    ensures numbers { IfOk result (λ line. AreTableNumbers top line) }
 {
-    let mut row = TableRow::zero(alloc, width)?;
-    put_unit_line(&mut row, width, form, top);
-    Ok(row)
-}
-
-fn push_row(rows: &mut Vec<TableRow>, row: TableRow) -> Result<(), OutOfMemory>
-    ensures { OnOk result (rows.new.items ≡ rows.old.items ++ row ∷ []) }
-{
-    Ok(rows.push(row)?)
+    let mut line = TableLine::zero(alloc, width)?;
+    put_unit_line(&mut line, width, form, top);
+    Ok(line)
 }
 
 /// Puts the lines of x - low for each of so many variables.
-fn push_low_rows(
+fn push_low_lines(
     alloc: Global,
     width: u32,
-    rows: &mut Vec<TableRow>,
+    lines: &mut Vec<TableLine>,
     top: Top,
 ) -> Result<(), OutOfMemory>
-    requires numbers { AreTableRows top (suc width) rows.old.items }
-    ensures rows { OnOk result (rows.new.items ≡ rows.old.items ++
+    requires numbers { AreTableLines top (suc width) lines.old.items }
+    ensures lines { OnOk result (lines.new.items ≡ lines.old.items ++
         map (λ v. whole (pos 0) ∷ map whole (unit width v (pos 1))) (numbers_from 0 width)) }
-    ensures numbers { OnOk result (AreTableRows top (suc width) rows.new.items) }
+    ensures numbers { OnOk result (AreTableLines top (suc width) lines.new.items) }
 {
     for var in 0..width {
         let form = UnitForm {
@@ -113,7 +97,7 @@ fn push_low_rows(
             constant: 0,
             coefficient: 1,
         };
-        push_row(rows, bound_row(alloc, width, form, top)?)?;
+        push_last(lines, bound_line(alloc, width, form, top)?)?;
     }
     Ok(())
 }
@@ -127,20 +111,20 @@ pub fn range_of(low: u16, high: u16) -> i64
 }
 
 /// Puts the lines of high - x for each variable.
-fn push_high_rows(
+fn push_high_lines(
     alloc: Global,
     low: &[u16],
     high: &[u16],
-    rows: &mut Vec<TableRow>,
+    lines: &mut Vec<TableLine>,
     top: Top,
 ) -> Result<(), OutOfMemory>
     requires same { length high.now ≡ length low.now }
     requires few { length low.now < 2 ^ 32 }
-    requires numbers { AreTableRows top (suc (length low.now)) rows.old.items }
-    ensures rows { OnOk result (rows.new.items ≡ rows.old.items ++
+    requires numbers { AreTableLines top (suc (length low.now)) lines.old.items }
+    ensures lines { OnOk result (lines.new.items ≡ lines.old.items ++
         map (λ v. whole (pos (slice_index high.now v) -ℤ pos (slice_index low.now v)) ∷
         map whole (unit (length low.now) v (negsuc 0))) (numbers_from 0 (length low.now))) }
-    ensures numbers { OnOk result (AreTableRows top (suc (length low.now)) rows.new.items) }
+    ensures numbers { OnOk result (AreTableLines top (suc (length low.now)) lines.new.items) }
 {
     let width = low.len() as u32;
     for var in 0..width {
@@ -150,25 +134,25 @@ fn push_high_rows(
             constant: range,
             coefficient: -1,
         };
-        push_row(rows, bound_row(alloc, width, form, top)?)?;
+        push_last(lines, bound_line(alloc, width, form, top)?)?;
     }
     Ok(())
 }
 
 /// The lines of the box at the starting basis.
-pub fn bound_rows(alloc: Global, costs: &CostBox, top: Top) -> Result<Vec<TableRow>, OutOfMemory>
+pub fn box_lines(alloc: Global, costs: &CostBox, top: Top) -> Result<Vec<TableLine>, OutOfMemory>
     requires ranges { IsBox (length costs.now.low) costs.now }
     requires few { length costs.now.low < 2 ^ 32 }
-    ensures rows { IfOk result (λ rows. rows.items ≡ map (starting_line costs.now [])
+    ensures lines { IfOk result (λ lines. lines.items ≡ map (starting_line costs.now [])
         (members_of_box costs.now 0)) }
-    ensures numbers { IfOk result (λ rows. AreTableRows top (suc (length costs.now.low))
-        rows.items) }
+    ensures numbers { IfOk result (λ lines. AreTableLines top (suc (length costs.now.low))
+        lines.items) }
 {
     let low = costs.low.as_slice();
-    let mut rows = Vec::new(alloc);
-    push_low_rows(alloc, low.len() as u32, &mut rows, top)?;
-    push_high_rows(alloc, low, costs.high.as_slice(), &mut rows, top)?;
-    Ok(rows)
+    let mut lines = Vec::new(alloc);
+    push_low_lines(alloc, low.len() as u32, &mut lines, top)?;
+    push_high_lines(alloc, low, costs.high.as_slice(), &mut lines, top)?;
+    Ok(lines)
 }
 
 /// The table of a box without rows, at the basis of the forms x - low.
@@ -184,14 +168,14 @@ pub fn starting_table(alloc: Global, costs: &CostBox, top: Top) -> Result<Table,
     ensures sound { IfOk result (λ table. IsSound table Open) }
 {
     let width = costs.low.as_slice().len() as u32;
-    let lines = bound_rows(alloc, costs, top)?;
+    let lines = box_lines(alloc, costs, top)?;
     Ok(Table {
         top,
-        costs: copy_box(alloc, costs)?,
+        costs: costs.copy(alloc)?,
         rows: Vec::new(alloc),
         basis: starting_basis(alloc, costs.low.as_slice())?,
         lines,
-        quotients: TableRow::zero(alloc, width)?,
-        scratch: TableRow::zero(alloc, width)?,
+        quotients: TableLine::zero(alloc, width)?,
+        scratch: TableLine::zero(alloc, width)?,
     })
 }

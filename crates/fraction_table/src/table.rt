@@ -7,11 +7,11 @@ ghost use Rattle.fraction_table.specs.Tableaus.{wide_at};
 ghost use Rattle.fraction_table.specs.ValidTables.{HasRoom, IsTableau, members_of_box};
 
 use design_problem::{CostBox, Form, Member};
-use fraction_rows::{PivotColumn, TableRow, take_quotients, turn_rows};
+use fraction_lines::{PivotColumn, TableLine, take_quotients, turn_lines};
 use wide_fraction::{Top, Wide};
 
 /// A box with the forms of rows, at a basis, and the entries of each form of the box over that basis: those of x - low
-/// and then of high - x for each variable, and those of the rows. A pivot works in the last two rows, so that it takes
+/// and then of high - x for each variable, and those of the rows. A pivot works in the last two lines, so that it takes
 /// no memory.
 #[derive(Drop)]
 pub struct Table {
@@ -24,11 +24,11 @@ pub struct Table {
     /// The forms at 0, one for each column.
     pub basis: Vec<Member>,
     /// For each form of the box and the rows, its entries over the basis.
-    pub lines: Vec<TableRow>,
-    /// Room for a pivot: the pivot's row over the pivot.
-    pub quotients: TableRow,
-    /// Room for a pivot: the row that is being turned.
-    pub scratch: TableRow,
+    pub lines: Vec<TableLine>,
+    /// Room for a pivot: the pivot's line over the pivot.
+    pub quotients: TableLine,
+    /// Room for a pivot: the line that is being turned.
+    pub scratch: TableLine,
 }
 
 impl Table {
@@ -59,12 +59,12 @@ impl Table {
     /// `Wide` where one of these steps makes a whole number that passes `top`. Then the basis is as before.
     pub fn pivot(&mut self, line: usize, column: u32) -> Result<(), Wide>
         // The lines are the table at the basis, and the column is the least one for a pivot on the line.
-        requires whole { IsTableau self.old }
+        requires tableau { IsTableau self.old }
         requires room { HasRoom self.old }
         requires pivot { IsLeastPivot self.old line column }
 
         // On Ok the lines are the table at the new basis, and its rank rose.
-        ensures whole { OnOk result (IsTableau self.new) }
+        ensures tableau { OnOk result (IsTableau self.new) }
         ensures rises { OnOk result (rank self.old < rank self.new) }
 
         // In any case it has the same box and rows, and room for pivots.
@@ -77,7 +77,7 @@ impl Table {
     {
         let member = self.member_at(line);
         let inverse = take_quotients(&self.lines[line], column, &mut self.quotients, self.top)?;
-        turn_rows(
+        turn_lines(
             self.lines.as_mut_slice(),
             &PivotColumn { column, inverse },
             &self.quotients,

@@ -14,8 +14,8 @@ use Rattle.input_files.specs.Outcomes.{ConfigFile, config_read, configs_read, ro
 use Rattle.input_files.specs.Stops.{StopsAs, IsReadAndMade, refusal_in}
 use Rattle.input_files.proofs.Readings.{begins_first, begins_then, ends_begin, ends_then, ends_faulty, ends_failed, bind_assoc, bind_ready}
 
--- Of all configurations some are left. Those that were read, of which this came, have these routers; and whatever ends the
--- reading of the others ends that of all.
+-- Of all configurations some are left. Those that were read, of which this came, have these routers; and whatever ends
+-- the reading of the others ends that of all.
 pub record Progress (all left : List (List ℕ)) (routers : List Router) (came : List Taken) : Type 0 where
   pub files : List ConfigFile
   pub said : routers ≡ routers_of files

@@ -1,5 +1,6 @@
 pub mod Readings
 pub mod Stops
+pub mod Parsed
 pub mod Configs
 pub mod Problems
 pub mod ReadyInputs

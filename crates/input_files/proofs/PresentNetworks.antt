@@ -1,11 +1,9 @@
 -- Networks at present costs and beside them: their request file has no fault, and each present cost is above 0.
-use Rattle.std.proofs.Common.{◌≡◌, ◌<◌, refl, sym, ◌∙◌, ap, ◌++◌, map, All, Option, None, Some}
-use Rattle.std.proofs.lemmas.Option.{none-some, same_Some}
-use Rattle.cost_base.proofs.ListLemmas.{append-none}
+use Rattle.std.proofs.Common.{◌≡◌, ◌<◌, refl, sym, ◌∙◌, ap, subst, [], ◌++◌, map, All, Option, None}
+use Rattle.cost_base.proofs.ListLemmas.{append-none, none_first}
 use Rattle.lsdb_build.specs.Graphs.{Database, IsAreaDatabase}
 use Rattle.design_problem.specs.Problems.{DesignProblem}
 use Rattle.request_reader.specs.Asked.{IsAsked}
-use Rattle.request_reader.proofs.AskedRules.{none_first}
 use Rattle.wanted_paths.specs.declared.fault.ResolutionFault.{ResolutionFault}
 use Rattle.wanted_paths.specs.LineFaults.{line_faults}
 use Rattle.path_requests.specs.Meaning.{present_cost, problem_of}
@@ -16,17 +14,14 @@ use Rattle.present_costs.proofs.PositiveCosts.{present_above}
 use Rattle.present_costs.proofs.ByLinks.{present_graph}
 use Rattle.input_files.specs.declared.problem.View.TheVariants.{AtPresent, BesidePresent}
 use Rattle.input_files.specs.Inputs.{InputFiles}
-use Rattle.input_files.specs.Readings.{Reading, Ready}
-use Rattle.input_files.specs.Outcomes.{Input, if_resolved, problem_read}
-
-abbrev is_ready : Reading DesignProblem → Option DesignProblem
-is_ready (Ready p) = Some p
-is_ready _ = None
+use Rattle.input_files.specs.Readings.{Reading, Ready, unless_refused, Says, EndsAs}
+use Rattle.input_files.specs.Outcomes.{Input, problem_read, resolution_refused}
+use Rattle.input_files.proofs.Readings.{said_unless}
 
 resolved : (names : InputFiles) (d : Database) (p q : DesignProblem) (fault : Option ResolutionFault) →
-    if_resolved names d p fault ≡ Ready q → (fault ≡ None) × (q ≡ p)
-resolved names d p q None h = (refl, sym (same_Some p q (ap is_ready h)))
-resolved names d p q (Some fault) h = absurd (none-some q (ap is_ready h))
+    unless_refused (resolution_refused names d) p fault ≡ Ready q → (fault ≡ None) × (q ≡ p)
+resolved names d p q fault h =
+    said_unless (resolution_refused names d) p q fault [] (subst (λ (m : Reading DesignProblem). EndsAs m [] (Says q)) (sym h) refl)
 
 -- At present costs.
 
@@ -39,7 +34,8 @@ at_present names d is = resolved names d.database (present_problem_of d.asked d.
 pub above_at_present : (names : InputFiles) (d : Input) → IsAsked d.asked → IsAreaDatabase d.database →
     problem_read AtPresent names d.asked d.database ≡ Ready d.problem → All (λ cost. 0 < cost) (map (present_cost d.asked) d.database.links)
 above_at_present names d asked base is =
-    let none = none_first (line_faults d.database d.asked.items ++ cost_faults (present_asked d.asked) d.database 0 d.database.links) (at_present names d is).0 in
+    let none = none_first (line_faults d.database d.asked.items ++ cost_faults (present_asked d.asked) d.database 0 d.database.links) (at_present names d is).0
+    in
     present_above d.asked d.database asked base
     (append-none (line_faults d.database d.asked.items) (cost_faults (present_asked d.asked) d.database 0 d.database.links) none).1
 

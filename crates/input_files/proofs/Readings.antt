@@ -1,9 +1,9 @@
 -- Readings of files, one bound after another, and how they end.
-use Rattle.std.proofs.Common.{◌≡◌, ℕ, refl, sym, ◌∙◌, ap, subst, List, [], ◌∷◌, ◌++◌, Result, Ok, Err}
+use Rattle.std.proofs.Common.{◌≡◌, ℕ, refl, sym, ◌∙◌, ap, subst, List, [], ◌∷◌, ◌++◌, Option, None, Some, Result, Ok, Err}
 use Rattle.cost_base.specs.declared.ShelfStop.{ShelfStop}
 use Rattle.cost_base.specs.declared.ShelfStop.TheVariants as stop
 use Rattle.cost_base.specs.Histories.{Taken}
-use Rattle.input_files.specs.Readings.{InputRefusal, Reading, Take, Refused, Ready, ◌>>=◌, End, Says, Faulty, Failed, too_long, OnCame, EndsAs, OnBytes, Begins}
+use Rattle.input_files.specs.Readings.{InputRefusal, Reading, Take, Refused, Ready, ◌>>=◌, unless_refused, End, Says, Faulty, Failed, too_long, OnCame, EndsAs, OnBytes, Begins}
 
 -- Ends differ.
 
@@ -87,7 +87,8 @@ ends_then {A} {B} (Take name most next) f (taken ∷ xs) ys x end first second =
 )
 
 -- a fault of the one reading is one of both
-pub ends_faulty : {A B : Type 0} (m : Reading A) (f : A → Reading B) (xs : List Taken) (r : InputRefusal) → EndsAs m xs (Faulty r) → EndsAs (m >>= f) xs (Faulty r)
+pub ends_faulty : {A B : Type 0} (m : Reading A) (f : A → Reading B) (xs : List Taken) (r : InputRefusal) → EndsAs m xs (Faulty r) →
+    EndsAs (m >>= f) xs (Faulty r)
 ends_faulty (Ready y) f [] r first = absurd (said_faulty y r (sym first))
 ends_faulty (Ready y) f (taken ∷ xs) r first = absurd first
 ends_faulty {A} {B} (Refused s) f [] r first = faulty_of {A = A} {B = B} r s first
@@ -255,3 +256,17 @@ one_end (Take name most next) (taken ∷ more) a b h k =
     ((more ≡ []) × (a ≡ Faulty (too_long name))) ((more ≡ []) × (b ≡ Faulty (too_long name)))
     ((more ≡ []) × (a ≡ Failed name)) ((more ≡ []) × (b ≡ Failed name))
     (λ bytes p q. one_end (next bytes) more a b p q) (λ p q. p.1 ∙ sym q.1) (λ p q. p.1 ∙ sym q.1) h.2 k.2
+
+-- what is said, unless there is a fault, has none
+pub said_unless : {A X : Type 0} (refused : X → InputRefusal) (made said : A) (fault : Option X) (came : List Taken) →
+    EndsAs (unless_refused refused made fault) came (Says said) → (fault ≡ None) × (said ≡ made)
+said_unless refused made said (Some fault) [] is = absurd (said_faulty said _ is)
+said_unless refused made said (Some fault) (taken ∷ more) is = absurd is
+said_unless refused made said None [] is = (refl, one_said said made is)
+said_unless refused made said None (taken ∷ more) is = absurd is
+
+-- and without a fault it is said
+pub says_unless : {A X : Type 0} (refused : X → InputRefusal) (said : A) (fault : Option X) → fault ≡ None →
+    EndsAs (unless_refused refused said fault) [] (Says said)
+says_unless {A} {X} refused said fault none =
+    subst (λ (f : Option X). EndsAs (unless_refused refused said f) [] (Says said)) (sym none) refl

@@ -14,7 +14,7 @@ use Rattle.lsdb_build.specs.Graphs.{Database, IsAreaDatabase}
 use Rattle.lsdb_build.specs.Topology.{FaultyPlace, topology_fault, database_of}
 use Rattle.lsdb_build.proofs.Databases.{database_is}
 use Rattle.design_problem.specs.Problems.{DesignProblem, IsProblem}
-use Rattle.request_reader.specs.declared.fault.RequestFault.{RequestFault}
+use Rattle.request_reader.specs.FaultNumbers.{request_fault_number}
 use Rattle.request_reader.specs.Asked.{Asked, IsAsked}
 use Rattle.request_reader.specs.Reading.{request_fault, asked_by}
 use Rattle.request_reader.proofs.AskedRules.{asked_keeps}
@@ -27,12 +27,12 @@ use Rattle.present_costs.proofs.FaultsBeside.{beside_then_resolved}
 use Rattle.input_files.specs.declared.problem.View.{View}
 use Rattle.input_files.specs.declared.problem.View.TheVariants.{AsRequested, BesidePresent}
 use Rattle.input_files.specs.Inputs.{InputFiles}
-use Rattle.input_files.specs.Readings.{Reading, Ready, ◌>>=◌, Says, Faulty, Failed, EndsAs, OnCame, too_long}
-use Rattle.input_files.proofs.Readings.{one_said, said_faulty, said_failed, was_read}
-use Rattle.input_files.specs.Outcomes.{ConfigFile, Input, request_read, if_asked, config_read, if_config, configs_read, routers_of, if_faultless, topology_read, if_resolved, problem_read, outcome}
+use Rattle.input_files.specs.Readings.{Reading, Ready, ◌>>=◌, unless_refused, line_refused, Says, Faulty, Failed, EndsAs, OnCame, too_long}
+use Rattle.input_files.proofs.Readings.{one_said, said_faulty, said_failed, said_unless, was_read}
+use Rattle.input_files.specs.Outcomes.{ConfigFile, Input, request_read, config_read, config_refused, configs_read, routers_of, topology_read, topology_refused_at, problem_read, resolution_refused, outcome}
 
--- no configuration and not the topology has a fault; the database is that of the configurations, and the problem that of
--- the request file
+-- no configuration and not the topology has a fault; the database is that of the configurations, and the problem that
+-- of the request file
 pub record IsReadyInput (d : Input) : Type 0 where
   pub accepted : All (λ file. config_fault file.name file.bytes ≡ None) d.files
   pub faultless : topology_fault d.asked.area (routers_of d.files) ≡ None
@@ -50,33 +50,25 @@ came_whole (Err stop.TooLong) next more x name is so = absurd (said_faulty x (to
 came_whole (Err stop.Failed) next more x name is so = absurd (said_failed x name is.1)
 came_whole (Err stop.OutOfMemory) next more x name is so = absurd is
 
-asked_ready : (name bytes : List ℕ) (o : Option (FaultyLine RequestFault)) (came : List Taken) (asked : Asked) →
-    request_fault bytes ≡ o → EndsAs (if_asked name bytes o) came (Says asked) → IsAsked asked
-asked_ready name bytes (Some faulty) [] asked fault is = absurd (said_faulty asked _ is)
-asked_ready name bytes (Some faulty) (taken ∷ more) asked fault is = absurd is
-asked_ready name bytes None [] asked fault is = subst IsAsked (sym (one_said asked (asked_by bytes) is)) (asked_keeps bytes fault)
-asked_ready name bytes None (taken ∷ more) asked fault is = absurd is
-
 request_ready : (name : List ℕ) (came : List Taken) (asked : Asked) → EndsAs (request_read name) came (Says asked) → IsAsked asked
 request_ready name [] asked is = absurd is
 request_ready name (taken ∷ more) asked is =
-    came_whole taken.came (λ bytes. if_asked name bytes (request_fault bytes)) more asked name is.2
-    (λ bytes ends. asked_ready name bytes (request_fault bytes) more asked refl ends)
+    came_whole taken.came (λ bytes. unless_refused (line_refused request_fault_number name) (asked_by bytes) (request_fault bytes)) more asked name is.2
+    (λ bytes ends.
+    (let said = said_unless (line_refused request_fault_number name) (asked_by bytes) asked (request_fault bytes) more ends in
+    subst IsAsked (sym said.1) (asked_keeps bytes said.0)))
 
-config_ready : (name bytes : List ℕ) (o : Option Fault) (came : List Taken) (file : ConfigFile) →
-    config_fault name bytes ≡ o → EndsAs (if_config name bytes o) came (Says file) → config_fault file.name file.bytes ≡ None
-config_ready name bytes (Some faulty) [] file fault is = absurd (said_faulty file _ is)
-config_ready name bytes (Some faulty) (taken ∷ more) file fault is = absurd is
-config_ready name bytes None [] file fault is =
-    subst (λ (f : ConfigFile). config_fault f.name f.bytes ≡ None) (sym (one_said file (record { name = name; bytes = bytes }) is)) fault
-config_ready name bytes None (taken ∷ more) file fault is = absurd is
+abbrev config_at : List ℕ → List ℕ → ConfigFile
+config_at name bytes = record { name = name; bytes = bytes }
 
 file_ready : (name : List ℕ) (came : List Taken) (file : ConfigFile) → EndsAs (config_read name) came (Says file) →
     config_fault file.name file.bytes ≡ None
 file_ready name [] file is = absurd is
 file_ready name (taken ∷ more) file is =
-    came_whole taken.came (λ bytes. if_config name bytes (config_fault name bytes)) more file name is.2
-    (λ bytes ends. config_ready name bytes (config_fault name bytes) more file refl ends)
+    came_whole taken.came (λ bytes. unless_refused (config_refused name) (config_at name bytes) (config_fault name bytes)) more file name is.2
+    (λ bytes ends.
+    (let said = said_unless (config_refused name) (config_at name bytes) file (config_fault name bytes) more ends in
+    subst (λ (f : ConfigFile). config_fault f.name f.bytes ≡ None) (sym said.1) said.0))
 
 abbrev AreAccepted : List ConfigFile → Type 0
 AreAccepted files = All (λ (file : ConfigFile). config_fault file.name file.bytes ≡ None) files
@@ -100,20 +92,6 @@ routers_kept : (files : List ConfigFile) → AreAccepted files → All IsRouter 
 routers_kept files accepted = All-map IsRouter (λ (file : ConfigFile). config_of file.name file.bytes) files
     (λ k file within. accepted_keeps (get_or files k file).name (get_or files k file).bytes (accepted k file within))
 
-topology_ready : (names : InputFiles) (made d : Database) (o : Option FaultyPlace) (came : List Taken) →
-    EndsAs (if_faultless names made o) came (Says d) → (o ≡ None) × (d ≡ made)
-topology_ready names made d (Some fault) [] is = absurd (said_faulty d _ is)
-topology_ready names made d (Some fault) (taken ∷ more) is = absurd is
-topology_ready names made d None [] is = (refl, one_said d made is)
-topology_ready names made d None (taken ∷ more) is = absurd is
-
-problem_ready : (names : InputFiles) (d : Database) (made p : DesignProblem) (o : Option ResolutionFault)
-    (came : List Taken) → EndsAs (if_resolved names d made o) came (Says p) → (o ≡ None) × (p ≡ made)
-problem_ready names d made p (Some fault) [] is = absurd (said_faulty p _ is)
-problem_ready names d made p (Some fault) (taken ∷ more) is = absurd is
-problem_ready names d made p None [] is = (refl, one_said p made is)
-problem_ready names d made p None (taken ∷ more) is = absurd is
-
 input_ready : (made d : Input) (came : List Taken) → EndsAs (Ready made) came (Says d) → IsReadyInput made → IsReadyInput d
 input_ready made d [] is ready = subst (λ (e : Input). IsReadyInput e) (sym (one_said d made is)) ready
 input_ready made d (taken ∷ more) is ready = absurd is
@@ -124,11 +102,11 @@ IsOfRequests view = (names : InputFiles) (asked : Asked) (d : Database) (p : Des
     EndsAs (problem_read view names asked d) came (Says p) → (resolution_fault asked d ≡ None) × (p ≡ problem_of asked d)
 
 as_requested : IsOfRequests AsRequested
-as_requested = λ names asked d p came said. problem_ready names d (problem_of asked d) p (resolution_fault asked d) came said
+as_requested = λ names asked d p came said. said_unless (resolution_refused names d) (problem_of asked d) p (resolution_fault asked d) came said
 
 beside_present : IsOfRequests BesidePresent
 beside_present = λ names asked d p came said.
-    let made = problem_ready names d (problem_of asked d) p (fault_beside_present asked d) came said in
+    let made = said_unless (resolution_refused names d) (problem_of asked d) p (fault_beside_present asked d) came said in
     (beside_then_resolved asked d made.0, made.1)
 
 -- The rest of a reading behind each step.
@@ -155,7 +133,7 @@ ready_in view names d came of_requests is =
     let problem = was_read (problem_read view names asked.value base.value)
     (after_problem asked.value files.value base.value) base.later d base.then_said in
     let accepted = files_ready names.configs files.first files.value files.said in
-    let built = topology_ready names (database_of asked.value.area (routers_of files.value)) base.value
+    let built = said_unless (topology_refused_at names) (database_of asked.value.area (routers_of files.value)) base.value
     (topology_fault asked.value.area (routers_of files.value)) base.first base.said in
     let database : IsAreaDatabase base.value = subst IsAreaDatabase (sym built.1)
     (database_is asked.value.area (routers_of files.value) built.0 (routers_kept files.value accepted)) in

@@ -1,14 +1,16 @@
 -- What was read one after another, and what stopped it.
-use Rattle.std.proofs.Common.{ℕ, refl, subst, List, [], ◌∷◌, ◌++◌, append-nil, Result, Ok, Err}
+use Rattle.std.proofs.Common.{◌≡◌, ◌∙◌, ℕ, refl, sym, ap, subst, List, [], ◌∷◌, ◌++◌, append-nil, Option, Some, Result, Ok, Err}
 use Rattle.std.specs.Borrow.{Bor}
 use Rattle.cost_base.specs.declared.ShelfStop.{ShelfStop}
 use Rattle.cost_base.specs.declared.ShelfStop.TheVariants as shelf
+use Rattle.cost_base.specs.declared.refusal.Refusal.{Refusal}
+use Rattle.cost_base.specs.declared.refusal.Refusal.TheVariants.{Refused as FaultAt}
 use Rattle.cost_base.specs.Histories.{Taken}
 use Rattle.input_files.specs.declared.stop.Stop.{Stop}
 use Rattle.input_files.specs.declared.stop.Stop.TheVariants as stops
-use Rattle.input_files.specs.Readings.{Reading, ◌>>=◌, Says, Faulty, Failed, EndsAs, Begins, Gave}
+use Rattle.input_files.specs.Readings.{InputRefusal, Reading, Refused, ◌>>=◌, unless_refused, place_refused, Says, Faulty, Failed, EndsAs, Begins, Gave}
 use Rattle.input_files.specs.Outcomes.{file_read}
-use Rattle.input_files.specs.Stops.{StopsAs, IsReadAndMade, IsReadAs, file_stop, refusal_in}
+use Rattle.input_files.specs.Stops.{StopsAs, IsReadAndMade, IsReadAs, IsRefusal, file_stop, refusal_in, refusal_stop}
 use Rattle.input_files.proofs.Readings.{begins_first, begins_then, ends_begin, ends_then, ends_faulty, ends_failed}
 
 -- what stops the one reading stops both
@@ -86,3 +88,28 @@ read_begins m came Fits (Err stops.OutOfMemory) h = h
 pub gave_wanting : {A T : Type 0} (Given : List Taken → Type 0) (m : Reading A) (Fits : T → A → Type 0) (made : T) →
     Gave Given (λ came. IsReadAndMade m came Fits made) → Gave Given (λ came. StopsAs m came stops.OutOfMemory)
 gave_wanting Given m Fits made a = record { came = a.came; given = a.given; so = ends_begin m a.came (Says a.so.said) a.so.ends }
+
+-- a refusal stops the reading that it ends
+pub refusal_stops : (A : Type 0) (r : InputRefusal) (stop : Stop) → IsRefusal r stop → StopsAs {A = A} (Refused r) [] stop
+refusal_stops A r (stops.Refused number file line) is = ap Faulty (sym is)
+refusal_stops A r (stops.ReadFault file) is = absurd is
+refusal_stops A r stops.OutOfMemory is = absurd is
+
+-- a fault stops what is said without one
+pub fault_stops : {A X : Type 0} (refused : X → InputRefusal) (said : A) (found : Option X) (fault : X) (stop : Stop) →
+    found ≡ Some fault → IsRefusal (refused fault) stop → StopsAs (unless_refused refused said found) [] stop
+fault_stops {A} {X} refused said found fault stop is told =
+    subst (λ (f : Option X). StopsAs (unless_refused refused said f) [] stop) (sym is) (refusal_stops A (refused fault) stop told)
+
+-- want of memory stops what reads no file
+pub memory_stops : {A : Type 0} (m : Reading A) (stop : Stop) → stop ≡ stops.OutOfMemory → StopsAs m [] stop
+memory_stops m stop is = subst (λ (s : Stop). StopsAs m [] s) (sym is) tt
+
+-- the stop of a refusal is that of its fault with the number, in the file
+pub refusal_by : {F : Type 0} (numbered : F → ℕ) (refusal : Refusal F ℕ) (fault : F) (line : ℕ) (file : Bor (List ℕ)) (name : List ℕ) (stop : Stop) →
+    refusal ≡ FaultAt fault line → stop ≡ refusal_stop numbered refusal file → file.now ≡ name →
+    IsRefusal (place_refused numbered name (fault, line)) stop
+refusal_by {F} numbered refusal fault line file name stop is stopped named =
+    subst (λ (s : Stop). IsRefusal (place_refused numbered name (fault, line)) s)
+    (sym (stopped ∙ ap (λ (r : Refusal F ℕ). refusal_stop numbered r file) is))
+    (ap (λ (n : List ℕ). place_refused numbered n (fault, line)) (sym named))

@@ -11,7 +11,7 @@ use Rattle.input_files.specs.Outcomes.{Input, routers_of, problem_read}
 
 -- the network is that of the input: its topology has no fault, and its requests are resolved
 pub record IsNetworkOf (view : View) (names : InputFiles) (network : Network) (d : Input) : Type 0 where
-  pub requests : network.requests ≡ d.asked
+  pub request_file : network.request_file ≡ d.asked
   pub configs : network.configs.items ≡ routers_of d.files
   pub lsdb : network.lsdb ≡ d.database
   pub problem : network.problem ≡ d.problem

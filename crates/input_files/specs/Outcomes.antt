@@ -1,5 +1,7 @@
 -- What the files of a network say, read in their order: the request file, each configuration, the topology, resolution.
 use Rattle.std.specs.Prelude.{ℕ, List, [], ◌∷◌, Option, Some, None, map, slice_get, slice_index_or}
+use Rattle.lsdb_build.specs.declared.fault.ConfigLine.{ConfigLine}
+use Rattle.lsdb_build.specs.declared.fault.TopologyFault.{TopologyFault}
 use Rattle.interface_model.specs.Records.{Router}
 use Rattle.config_reader.specs.Configs.{config_of}
 use Rattle.config_reader.specs.FaultNumbers.{config_fault_number}
@@ -9,8 +11,6 @@ use Rattle.lsdb_build.specs.Graphs.{Database}
 use Rattle.lsdb_build.specs.FaultNumbers.{topology_fault_number}
 use Rattle.lsdb_build.specs.Topology.{FaultyPlace, topology_fault, database_of}
 use Rattle.design_problem.specs.Problems.{DesignProblem}
-use Rattle.text_lines.specs.LineFaults.{FaultyLine}
-use Rattle.request_reader.specs.declared.fault.RequestFault.{RequestFault}
 use Rattle.request_reader.specs.Asked.{Asked}
 use Rattle.path_requests.specs.Meaning.{problem_of}
 use Rattle.request_reader.specs.FaultNumbers.{request_fault_number}
@@ -23,7 +23,7 @@ use Rattle.present_costs.specs.PresentCosts.{fault_beside_present}
 use Rattle.input_files.specs.declared.problem.View.{View}
 use Rattle.input_files.specs.declared.problem.View.TheVariants.{AsRequested, BesidePresent, AtPresent}
 use Rattle.input_files.specs.Inputs.{InputFiles}
-use Rattle.input_files.specs.Readings.{InputRefusal, Reading, Take, Refused, Ready, ◌>>=◌}
+use Rattle.input_files.specs.Readings.{InputRefusal, Reading, Take, Ready, ◌>>=◌, unless_refused, place_refused, line_refused}
 
 -- a configuration: its file's name and its bytes
 pub record ConfigFile : Type 0 where
@@ -49,23 +49,19 @@ longest_answer = 1073741824
 abbrev pub file_read : ℕ → List ℕ → Reading (List ℕ)
 file_read most name = Take name most (λ bytes. Ready bytes)
 
--- what a request file asks for, or its first fault
-abbrev pub if_asked : List ℕ → List ℕ → Option (FaultyLine RequestFault) → Reading Asked
-if_asked name bytes None = Ready (asked_by bytes)
-if_asked name bytes (Some faulty) = Refused (record { number = request_fault_number faulty.fault; file = name; line = faulty.line })
-
 -- what is read of a request file: its size, and then its lines up to the first fault
 abbrev pub request_read : List ℕ → Reading Asked
-request_read name = file_read longest_file name >>= λ bytes. if_asked name bytes (request_fault bytes)
+request_read name = file_read longest_file name >>= λ bytes. unless_refused (line_refused request_fault_number name) (asked_by bytes) (request_fault bytes)
 
--- a configuration without a fault, or its first fault
-abbrev pub if_config : List ℕ → List ℕ → Option Fault → Reading ConfigFile
-if_config name bytes None = Ready (record { name = name; bytes = bytes })
-if_config name bytes (Some fault) = Refused (record { number = config_fault_number fault.fault; file = name; line = fault.line })
+-- how a fault of a configuration is refused
+abbrev pub config_refused : List ℕ → Fault → InputRefusal
+config_refused name fault = place_refused config_fault_number name (fault.fault, fault.line)
 
 -- what is read of a configuration's file: its size, and then its lines up to the first fault
 abbrev pub config_read : List ℕ → Reading ConfigFile
-config_read name = file_read longest_file name >>= λ bytes. if_config name bytes (config_fault name bytes)
+config_read name =
+    file_read longest_file name >>= λ bytes.
+    unless_refused (config_refused name) (record { name = name; bytes = bytes }) (config_fault name bytes)
 
 -- what is read of the files of configurations, in the order of the words that name them
 abbrev pub configs_read : List (List ℕ) → Reading (List ConfigFile)
@@ -81,14 +77,17 @@ routers_of files = map (λ file. config_of file.name file.bytes) files
 abbrev pub file_of : InputFiles → ℕ → List ℕ
 file_of names router = slice_index_or names.configs router names.request
 
--- the database of an area, or the first fault of its topology
-abbrev pub if_faultless : InputFiles → Database → Option FaultyPlace → Reading Database
-if_faultless names d None = Ready d
-if_faultless names d (Some place) = Refused (record { number = topology_fault_number place.fault; file = file_of names place.config; line = place.line })
+-- how a fault of a topology is refused: in the file of the configuration that it is of
+abbrev pub topology_refused : InputFiles → TopologyFault → ConfigLine → InputRefusal
+topology_refused names fault place = place_refused topology_fault_number (file_of names place.config) (fault, place.line)
+
+-- how the first fault of a topology is refused
+abbrev pub topology_refused_at : InputFiles → FaultyPlace → InputRefusal
+topology_refused_at names place = topology_refused names place.fault (record { config = place.config; line = place.line })
 
 -- what the configurations of an area make of it: its database, or the first fault of its topology
 abbrev pub topology_read : InputFiles → ℕ → List Router → Reading Database
-topology_read names area routers = if_faultless names (database_of area routers) (topology_fault area routers)
+topology_read names area routers = unless_refused (topology_refused_at names) (database_of area routers) (topology_fault area routers)
 
 -- a line of a file
 pub record FilePlace : Type 0 where
@@ -112,22 +111,27 @@ resolution_place names d (PathExcluded line) = record { file = names.request; li
 resolution_place names d (EndsDiffer line) = record { file = names.request; line = line }
 resolution_place names d TooManyVariables = record { file = names.request; line = 0 }
 
--- how a fault of resolution is written
-abbrev pub resolution_refusal : InputFiles → Database → ResolutionFault → InputRefusal
-resolution_refusal names d fault =
-    record { number = resolution_fault_number fault; file = (resolution_place names d fault).file; line = (resolution_place names d fault).line }
-
--- the problem, or the first fault of resolution
-abbrev pub if_resolved : InputFiles → Database → DesignProblem → Option ResolutionFault → Reading DesignProblem
-if_resolved names d p None = Ready p
-if_resolved names d p (Some fault) = Refused (resolution_refusal names d fault)
+-- how a fault of resolution is refused
+abbrev pub resolution_refused : InputFiles → Database → ResolutionFault → InputRefusal
+resolution_refused names d fault =
+    place_refused resolution_fault_number (resolution_place names d fault).file (fault, (resolution_place names d fault).line)
 
 -- The problem that the request file makes of the database: with the interfaces that it frees, and so beside the present
--- costs, which then every interface needs; or with every interface as it is.
+-- costs; or with every interface as it is.
+abbrev pub viewed_problem : View → Asked → Database → DesignProblem
+viewed_problem AsRequested asked d = problem_of asked d
+viewed_problem BesidePresent asked d = problem_of asked d
+viewed_problem AtPresent asked d = present_problem_of asked d
+
+-- the first fault of resolution; beside the present costs every interface needs one
+abbrev pub viewed_fault : View → Asked → Database → Option ResolutionFault
+viewed_fault AsRequested asked d = resolution_fault asked d
+viewed_fault BesidePresent asked d = fault_beside_present asked d
+viewed_fault AtPresent asked d = present_fault asked d
+
+-- the problem that the request file makes of the database, or the first fault of resolution
 abbrev pub problem_read : View → InputFiles → Asked → Database → Reading DesignProblem
-problem_read AsRequested names asked d = if_resolved names d (problem_of asked d) (resolution_fault asked d)
-problem_read BesidePresent names asked d = if_resolved names d (problem_of asked d) (fault_beside_present asked d)
-problem_read AtPresent names asked d = if_resolved names d (present_problem_of asked d) (present_fault asked d)
+problem_read view names asked d = unless_refused (resolution_refused names d) (viewed_problem view asked d) (viewed_fault view asked d)
 
 -- what the files of a network say
 abbrev pub outcome : View → InputFiles → Reading Input

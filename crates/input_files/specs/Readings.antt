@@ -1,8 +1,9 @@
 -- Readings of files, one file after another, and how what comes of the files ends them.
-use Rattle.std.specs.Prelude.{◌≡◌, ℕ, List, [], ◌∷◌, Result, Ok, Err}
+use Rattle.std.specs.Prelude.{◌≡◌, ℕ, List, [], ◌∷◌, Option, Some, None, Result, Ok, Err}
 use Rattle.cost_base.specs.declared.ShelfStop.{ShelfStop}
 use Rattle.cost_base.specs.declared.ShelfStop.TheVariants as stop
 use Rattle.cost_base.specs.Histories.{Taken}
+use Rattle.text_lines.specs.LineFaults.{FaultyLine}
 use Rattle.input_files.specs.declared.stop.FileFault.TheVariants.{TooLong}
 use Rattle.input_files.specs.FaultNumbers.{file_fault_number}
 
@@ -25,6 +26,24 @@ abbrev pub ◌>>=◌ : {A B : Type 0} → Reading A → (A → Reading B) → Re
 (Take name most next) >>= f = Take name most (λ bytes. next bytes >>= f)
 (Refused r) >>= f = Refused r
 (Ready x) >>= f = f x
+
+-- what is said, unless there is a fault: then that fault is refused
+abbrev pub unless_refused : {A X : Type 0} → (X → InputRefusal) → A → Option X → Reading A
+unless_refused refused said None = Ready said
+unless_refused refused said (Some fault) = Refused (refused fault)
+
+-- what is said, or the fault that is refused
+abbrev pub or_refused : {A X : Type 0} → (X → InputRefusal) → Result A X → Reading A
+or_refused refused (Ok said) = Ready said
+or_refused refused (Err fault) = Refused (refused fault)
+
+-- how a fault with its place is refused, where faults have these numbers: the place stands for the line
+abbrev pub place_refused : {F : Type 0} → (F → ℕ) → List ℕ → F × ℕ → InputRefusal
+place_refused numbered file fault = record { number = numbered fault.0; file = file; line = fault.1 }
+
+-- how a faulty line is refused, where faults have these numbers
+abbrev pub line_refused : {F : Type 0} → (F → ℕ) → List ℕ → FaultyLine F → InputRefusal
+line_refused numbered file faulty = place_refused numbered file (faulty.fault, faulty.line)
 
 -- how a reading ends: the files say this, or their first fault is this, or this file failed
 pub data End (A : Type 0) : Type 0 where

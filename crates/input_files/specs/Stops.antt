@@ -6,20 +6,14 @@ use Rattle.cost_base.specs.declared.ShelfStop.TheVariants.{Failed as NotRead, To
 use Rattle.cost_base.specs.declared.refusal.Refusal.{Refusal}
 use Rattle.cost_base.specs.declared.refusal.Refusal.TheVariants.{Refused as FaultAt, OutOfMemory as NoMemoryLeft}
 use Rattle.cost_base.specs.Histories.{Taken}
-use Rattle.lsdb_build.specs.declared.fault.ConfigLine.{ConfigLine}
-use Rattle.lsdb_build.specs.declared.fault.TopologyFault.{TopologyFault}
-use Rattle.lsdb_build.specs.Graphs.{Database}
 use Rattle.input_files.specs.declared.stop.FileFault.TheVariants.{TooLong as FileTooLong}
 use Rattle.input_files.specs.FaultNumbers.{file_fault_number}
-use Rattle.lsdb_build.specs.FaultNumbers.{topology_fault_number}
-use Rattle.wanted_paths.specs.declared.fault.ResolutionFault.{ResolutionFault}
 use Rattle.text_lines.specs.Arguments.{texts}
 use Rattle.input_files.specs.declared.stop.Stop.{Stop}
 use Rattle.input_files.specs.declared.stop.Stop.TheVariants.{Refused, ReadFault, OutOfMemory}
 use Rattle.input_files.specs.declared.reading.FileWords.{FileWords}
 use Rattle.input_files.specs.Inputs.{InputFiles}
 use Rattle.input_files.specs.Readings.{InputRefusal, Reading, Says, Faulty, Failed, EndsAs, Begins}
-use Rattle.input_files.specs.Outcomes.{file_of, resolution_refusal}
 
 -- the files that words name
 abbrev pub files_named : FileWords → InputFiles
@@ -46,16 +40,16 @@ abbrev pub IsReadAs : {A T : Type 0} → Reading A → List Taken → (T → A �
 IsReadAs reading came Fits (Ok made) = IsReadAndMade reading came Fits made
 IsReadAs reading came Fits (Err stop) = StopsAs reading came stop
 
--- the stop of a file that wasn't read
-abbrev pub file_stop : ShelfStop → Bor (List ℕ) → Stop
-file_stop NotRead file = ReadFault file
-file_stop TooLong file = Refused (file_fault_number FileTooLong) file 0
-file_stop NoMemory file = OutOfMemory
-
 -- the stop of a file that is refused by itself, where its faults have these numbers
 abbrev pub refusal_stop : {F : Type 0} → (F → ℕ) → Refusal F ℕ → Bor (List ℕ) → Stop
 refusal_stop numbered (FaultAt fault line) file = Refused (numbered fault) file line
 refusal_stop numbered NoMemoryLeft file = OutOfMemory
+
+-- the stop of a file that wasn't read
+abbrev pub file_stop : ShelfStop → Bor (List ℕ) → Stop
+file_stop NotRead file = ReadFault file
+file_stop TooLong file = refusal_stop file_fault_number (FaultAt FileTooLong 0) file
+file_stop NoMemory file = OutOfMemory
 
 -- a stop that is a refusal of these parts
 abbrev pub IsRefusal : InputRefusal → Stop → Type 0
@@ -63,13 +57,12 @@ IsRefusal r (Refused number file line) = r ≡ refusal_in number file line
 IsRefusal r (ReadFault file) = ⊥
 IsRefusal r OutOfMemory = ⊥
 
--- the stop of a topology that is refused
-abbrev pub topology_stop : Refusal TopologyFault ConfigLine → InputFiles → Stop → Type 0
-topology_stop (FaultAt fault place) names stop =
-    IsRefusal (record { number = topology_fault_number fault; file = file_of names place.config; line = place.line }) stop
-topology_stop NoMemoryLeft names stop = stop ≡ OutOfMemory
+-- the stop of what is refused, where its fault is refused so in one of several files
+abbrev pub IsStopOf : {F P : Type 0} → (F → P → InputRefusal) → Refusal F P → Stop → Type 0
+IsStopOf refused (FaultAt fault place) stop = IsRefusal (refused fault place) stop
+IsStopOf refused NoMemoryLeft stop = stop ≡ OutOfMemory
 
--- the stop of a request file that isn't resolved
-abbrev pub resolution_stop : Refusal ResolutionFault (Unit {0}) → Database → InputFiles → Stop → Type 0
-resolution_stop (FaultAt fault place) d names stop = IsRefusal (resolution_refusal names d fault) stop
-resolution_stop NoMemoryLeft d names stop = stop ≡ OutOfMemory
+-- what a file says, or the stop of its refusal
+abbrev pub said_or_stop : {T F : Type 0} → (F → ℕ) → Result T (Refusal F ℕ) → Bor (List ℕ) → Result T Stop
+said_or_stop numbered (Ok said) file = Ok said
+said_or_stop numbered (Err refusal) file = Err (refusal_stop numbered refusal file)

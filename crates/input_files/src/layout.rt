@@ -20,7 +20,7 @@ use wanted_paths::{Names, ResolutionFault, resolve_lines};
 #[derive(Drop)]
 pub struct Layout {
     /// What the request file asks for.
-    pub requests: RequestFile,
+    pub request_file: RequestFile,
     /// What the configurations say, in their order.
     pub configs: Vec<RouterConfig>,
     /// The routers, links and transit subnets of the area.
@@ -36,11 +36,11 @@ fn read_area<'a, S: Shelf>(
     ensures { Gave (S.gave shelf.old shelf.new) (λ came. IsReadAs
         (area_read (files_named words.entry)) came IsLayoutOf result) }
 {
-    let requests = read_request(alloc, shelf, words.request)?;
+    let request_file = read_request(alloc, shelf, words.request)?;
     let configs = read_configs(alloc, shelf, words.configs)?;
-    let lsdb = topology(alloc, &configs, requests.area, words)?;
+    let lsdb = topology(alloc, &configs, request_file.area, words)?;
     Ok(Layout {
-        requests,
+        request_file,
         configs,
         lsdb,
     })
@@ -49,26 +49,26 @@ fn read_area<'a, S: Shelf>(
 /// Whether each line of a request file can be resolved in an area, or the first fault of one that can't.
 fn resolve_each_line(
     alloc: Global,
-    requests: &RequestFile,
+    request_file: &RequestFile,
     lsdb: &Lsdb,
 ) -> Result<(), Refusal<ResolutionFault, ()>>
-    ensures made { OnOk result (line_faults lsdb.now requests.now.items ≡ []) }
+    ensures made { OnOk result (line_faults lsdb.now request_file.now.items ≡ []) }
     ensures refused { IfErr result
-        (TellsResolution (first_of (line_faults lsdb.now requests.now.items))) }
+        (TellsResolution (first_of (line_faults lsdb.now request_file.now.items))) }
 {
     let names = Names::new(alloc, lsdb)?;
     let outline = names.outline(alloc)?;
     // The paths aren't asked for here: the test is whether they can be resolved.
-    let _paths = resolve_lines(alloc, &names, &outline, requests.items.as_slice())?;
+    let _paths = resolve_lines(alloc, &names, &outline, request_file.items.as_slice())?;
     Ok(())
 }
 
 /// Tests that each line of a layout's request file can be resolved.
 fn check_lines<'a>(alloc: Global, layout: &Layout, words: FileWords<'a>) -> Result<(), Stop<'a>>
-    ensures { IsReadAs (lines_read (files_named words.entry) layout.now.requests layout.now.lsdb) []
-        (λ _ none. none ≡ tt) result }
+    ensures { IsReadAs (lines_read (files_named words.entry) layout.now.request_file
+        layout.now.lsdb) [] (λ _ none. none ≡ tt) result }
 {
-    match resolve_each_line(alloc, &layout.requests, &layout.lsdb) {
+    match resolve_each_line(alloc, &layout.request_file, &layout.lsdb) {
         Ok(()) => Ok(()),
         Err(refusal) => Err(stop_of_resolution(refusal, &layout.lsdb, words)),
     }

@@ -12,4 +12,4 @@ pub use layout::{Layout, read_layout};
 pub use network::{Network, read_network};
 pub use problem::{View, file_of, read_problem, resolution_at_present};
 pub use reading::{ConfigText, FileWords, read_answer_file, read_config_text, read_file};
-pub use stop::{FileFault, Stop, stop_of};
+pub use stop::{FileFault, Stop, said_or_stop, stop_of};

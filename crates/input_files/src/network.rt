@@ -19,7 +19,7 @@ use std::alloc::Global;
 #[derive(Drop)]
 pub struct Network {
     /// What the request file asks for.
-    pub requests: RequestFile,
+    pub request_file: RequestFile,
     /// What the configurations say, in their order.
     pub configs: Vec<RouterConfig>,
     /// The routers, links and transit subnets of the area.
@@ -44,12 +44,12 @@ pub fn read_network<'a, S: Shelf>(
         (outcome view (files_named words.entry)) came (IsNetworkOf view (files_named words.entry))
         result) }
 {
-    let requests = read_request(alloc, shelf, words.request)?;
+    let request_file = read_request(alloc, shelf, words.request)?;
     let configs = read_configs(alloc, shelf, words.configs)?;
-    let lsdb = topology(alloc, &configs, requests.area, words)?;
-    let problem = resolution(alloc, view, &requests, &lsdb, words)?;
+    let lsdb = topology(alloc, &configs, request_file.area, words)?;
+    let problem = resolution(alloc, view, &request_file, &lsdb, words)?;
     Ok(Network {
-        requests,
+        request_file,
         configs,
         lsdb,
         problem,

@@ -1,14 +1,15 @@
 //! The problem that the files of words make: the request file, the configurations, the topology, resolution.
-ghost use Rattle.std.specs.Prelude.{◌≡◌, ℕ, List, [], IfOk};
+ghost use Rattle.std.specs.Prelude.{◌≡◌, None, ℕ, List, [], IfOk, IfErr};
 ghost use Rattle.lsdb_build.specs.Graphs.{IsAreaDatabase};
+ghost use Rattle.wanted_paths.specs.LineFaults.{TellsResolution};
 ghost use Rattle.input_files.specs.Readings.{Gave};
-ghost use Rattle.input_files.specs.Outcomes.{outcome, topology_read, problem_read, file_of, resolution_place};
-ghost use Rattle.input_files.specs.Stops.{IsReadAs, files_named, topology_stop, resolution_stop};
+ghost use Rattle.input_files.specs.Outcomes.{outcome, topology_read, topology_refused, problem_read, viewed_fault, viewed_problem, file_of, resolution_place, resolution_refused};
+ghost use Rattle.input_files.specs.Stops.{IsReadAs, IsStopOf, files_named};
 
 use crate::network::read_network;
 use crate::reading::FileWords;
-use crate::stop::Stop;
-use cost_base::{Fault, Refusal, Shelf};
+use crate::stop::{Stop, stop_of};
+use cost_base::{Refusal, Shelf};
 use design_problem::Problem;
 use interface_model::RouterConfig;
 use lsdb_build::{ConfigLine, Lsdb, TopologyFault, build};
@@ -43,14 +44,12 @@ pub fn file_of(words: FileWords<'_>, router: u32) -> &str
 
 /// The stop of a topology that is refused.
 fn stop_of_topology(refusal: Refusal<TopologyFault, ConfigLine>, words: FileWords<'_>) -> Stop<'_>
-    ensures { topology_stop refusal (files_named words.entry) result }
+    ensures { IsStopOf (topology_refused (files_named words.entry)) refusal result }
 {
     match refusal {
-        Refusal::Refused { fault, place } => Stop::Refused {
-            number: fault.number(),
-            file: file_of(words, place.config),
-            line: place.line,
-        },
+        Refusal::Refused { fault, place } => {
+            stop_of(Refusal::at(place.line, fault), file_of(words, place.config))
+        }
         Refusal::OutOfMemory => Stop::OutOfMemory,
     }
 }
@@ -92,49 +91,50 @@ pub(crate) fn stop_of_resolution<'a>(
     lsdb: &Lsdb,
     words: FileWords<'a>,
 ) -> Stop<'a>
-    ensures { resolution_stop refusal lsdb.now (files_named words.entry) result }
+    ensures { IsStopOf (λ fault _. resolution_refused (files_named words.entry) lsdb.now fault)
+        refusal result }
 {
     match refusal {
         Refusal::Refused { fault, place: () } => {
             let (file, line) = place_of(fault, lsdb, words);
-            Stop::Refused {
-                number: fault.number(),
-                file,
-                line,
-            }
+            stop_of(Refusal::at(line, fault), file)
         }
         Refusal::OutOfMemory => Stop::OutOfMemory,
     }
 }
 
-/// The problem that a request file makes of a topology, with the interfaces that it frees.
-fn resolution_as_requested<'a>(
+/// The problem that a request file makes of a topology, or its first fault.
+fn resolve_in(
     alloc: Global,
-    requests: &RequestFile,
+    view: View,
+    request_file: &RequestFile,
     lsdb: &Lsdb,
-    words: FileWords<'a>,
-) -> Result<Problem, Stop<'a>>
-    ensures { IsReadAs (problem_read View.AsRequested (files_named words.entry) requests.now
-        lsdb.now) [] (λ p read. p ≡ read) result }
+) -> Result<Problem, Refusal<ResolutionFault, ()>>
+    ensures made { IfOk result (λ p. (viewed_fault view request_file.now lsdb.now ≡ None) ×
+        (p ≡ viewed_problem view request_file.now lsdb.now)) }
+    ensures refused { IfErr result
+        (TellsResolution (viewed_fault view request_file.now lsdb.now)) }
 {
-    match resolve(alloc, requests, lsdb) {
-        Ok(problem) => Ok(problem),
-        Err(refusal) => Err(stop_of_resolution(refusal, lsdb, words)),
+    match view {
+        View::AsRequested => resolve(alloc, request_file, lsdb),
+        View::BesidePresent => resolve_beside_present(alloc, request_file, lsdb),
+        View::AtPresent => resolve_present(alloc, request_file, lsdb),
     }
 }
 
-/// The problem that a request file makes of a topology with the interfaces that it frees, where each has
-/// a present cost.
-fn resolution_beside_present<'a>(
+/// The problem that a request file makes of a topology.
+pub(crate) fn resolution<'a>(
     alloc: Global,
-    requests: &RequestFile,
+    view: View,
+    request_file: &RequestFile,
     lsdb: &Lsdb,
     words: FileWords<'a>,
 ) -> Result<Problem, Stop<'a>>
-    ensures { IsReadAs (problem_read View.BesidePresent (files_named words.entry) requests.now
-        lsdb.now) [] (λ p read. p ≡ read) result }
+    ensures present { IfOk result (λ p. view ≡ View.AtPresent → p.low ≡ []) }
+    ensures read { IsReadAs (problem_read view (files_named words.entry) request_file.now lsdb.now)
+        [] (λ p read. p ≡ read) result }
 {
-    match resolve_beside_present(alloc, requests, lsdb) {
+    match resolve_in(alloc, view, request_file, lsdb) {
         Ok(problem) => Ok(problem),
         Err(refusal) => Err(stop_of_resolution(refusal, lsdb, words)),
     }
@@ -147,37 +147,15 @@ fn resolution_beside_present<'a>(
 /// `Stop`: a line of the request file can't be resolved, or an interface has no cost; want of memory.
 pub fn resolution_at_present<'a>(
     alloc: Global,
-    requests: &RequestFile,
+    request_file: &RequestFile,
     lsdb: &Lsdb,
     words: FileWords<'a>,
 ) -> Result<Problem, Stop<'a>>
     ensures present { IfOk result (λ p. p.low ≡ []) }
-    ensures read { IsReadAs (problem_read View.AtPresent (files_named words.entry) requests.now
+    ensures read { IsReadAs (problem_read View.AtPresent (files_named words.entry) request_file.now
         lsdb.now) [] (λ p read. p ≡ read) result }
 {
-    match resolve_present(alloc, requests, lsdb) {
-        Ok(problem) => Ok(problem),
-        Err(refusal) => Err(stop_of_resolution(refusal, lsdb, words)),
-    }
-}
-
-/// The problem that a request file makes of a topology.
-pub(crate) fn resolution<'a>(
-    alloc: Global,
-    view: View,
-    requests: &RequestFile,
-    lsdb: &Lsdb,
-    words: FileWords<'a>,
-) -> Result<Problem, Stop<'a>>
-    ensures present { IfOk result (λ p. view ≡ View.AtPresent → p.low ≡ []) }
-    ensures read { IsReadAs (problem_read view (files_named words.entry) requests.now lsdb.now) []
-        (λ p read. p ≡ read) result }
-{
-    match view {
-        View::AsRequested => resolution_as_requested(alloc, requests, lsdb, words),
-        View::BesidePresent => resolution_beside_present(alloc, requests, lsdb, words),
-        View::AtPresent => resolution_at_present(alloc, requests, lsdb, words),
-    }
+    resolution(alloc, View::AtPresent, request_file, lsdb, words)
 }
 
 /// The problem that the files of words make.

@@ -6,10 +6,10 @@ ghost use Rattle.input_files.specs.Readings.{Gave};
 ghost use Rattle.input_files.specs.Outcomes.{longest_answer, file_read, request_read, configs_read, config_read, routers_of};
 ghost use Rattle.input_files.specs.Stops.{IsReadAs, file_stop};
 
-use crate::stop::{FileFault, Stop, stop_of};
-use cost_base::{Fault, Shelf, ShelfStop};
+use crate::stop::{FileFault, Stop, said_or_stop, stop_of};
+use cost_base::{Refusal, Shelf, ShelfStop};
 use interface_model::RouterConfig;
-use request_reader::{RequestFile, read_requests};
+use request_reader::{RequestFile, read_request_file};
 use std::alloc::Global;
 use std::marker::Model;
 
@@ -34,11 +34,7 @@ fn stop_of_file(stop: ShelfStop, file: &str) -> Stop<'_>
 {
     match stop {
         ShelfStop::Failed => Stop::ReadFault { file },
-        ShelfStop::TooLong => Stop::Refused {
-            number: FileFault::TooLong.number(),
-            file,
-            line: 0,
-        },
+        ShelfStop::TooLong => stop_of(Refusal::at(0, FileFault::TooLong), file),
         ShelfStop::OutOfMemory => Stop::OutOfMemory,
     }
 }
@@ -76,10 +72,7 @@ pub(crate) fn read_request<'a, S: Shelf>(
         (λ r asked. r ≡ asked) result) }
 {
     let bytes = read_file(alloc, shelf, name, LONGEST_FILE)?;
-    match read_requests(alloc, &bytes) {
-        Ok(requests) => Ok(requests),
-        Err(refusal) => Err(stop_of(refusal, name)),
-    }
+    said_or_stop(read_request_file(alloc, &bytes), name)
 }
 
 /// A configuration without a fault: its file's name, its bytes, and what it says. Contracts see the name and the bytes.

@@ -1,7 +1,7 @@
 //! What ends the reading of files.
 ghost use Rattle.std.specs.Prelude.{◌≡◌};
 ghost use Rattle.input_files.specs.FaultNumbers.{file_fault_number};
-ghost use Rattle.input_files.specs.Stops.{refusal_stop};
+ghost use Rattle.input_files.specs.Stops.{refusal_stop, said_or_stop};
 
 use cost_base::{Fault, OutOfMemory, Refusal};
 
@@ -65,5 +65,19 @@ pub fn stop_of<F: Fault>(refusal: Refusal<F>, file: &str) -> Stop<'_>
             line: place,
         },
         Refusal::OutOfMemory => Stop::OutOfMemory,
+    }
+}
+
+/// What a file says, or the stop of its refusal.
+///
+/// # Errors
+///
+/// `Stop`: that of the refusal.
+pub fn said_or_stop<T, F: Fault>(said: Result<T, Refusal<F>>, file: &str) -> Result<T, Stop<'_>>
+    ensures { result ≡ said_or_stop F.numbered said file.entry }
+{
+    match said {
+        Ok(said) => Ok(said),
+        Err(refusal) => Err(stop_of(refusal, file)),
     }
 }

@@ -7,6 +7,7 @@ use Rattle.std.proofs.lemmas.List.{length-map}
 use Rattle.whole_numbers.proofs.FractionLaws.{product_positive}
 use Rattle.whole_numbers.proofs.Ring.{var, num, ◌⊖◌, ◌⊗◌, ring_by, using, nothing}
 use Rattle.whole_numbers.specs.Lists.{number_at}
+use Rattle.design_problem.proofs.PaymentLaws.{some_or_none}
 use Rattle.integer_pivots.specs.declared.line.Line.{Line}
 use Rattle.integer_pivots.specs.Leads.{AreLeads, AreZeros, IsLead}
 use Rattle.integer_pivots.specs.Lines.{no_line, rows_of}
@@ -14,7 +15,7 @@ use Rattle.integer_pivots.specs.Turns.{AreTurnedLines, IsTurnedLine, turn_at}
 use Rattle.integer_pivots.proofs.TurnLaws.{turn_level, turn_positive}
 use Rattle.integer_pivots.proofs.WrittenPlaces.{written_more}
 
--- a number of a row is the line's
+-- a number of a line's list is the line's
 pub row_number : (lines : List Line) (v c : ℕ) →
     number_at (slice_index_or (rows_of lines) v []) c ≡ number_at (slice_index_or lines v no_line).numbers c
 row_number lines v c = ap (λ zs. number_at zs c) (Rattle.std.proofs.Math.ListN.get_or-map (λ (line : Line). line.numbers) lines v no_line)
@@ -37,11 +38,6 @@ other_zero a b e some =
 
 pub positive_some : (z : ℤ) → pos 0 <ℤ z → z ≢ pos 0
 positive_some z positive none = omega (arith, ints)
-
-cases_zero : (z : ℤ) → (z ≡ pos 0) ⊎ (z ≢ pos 0)
-cases_zero (pos zero) = inl refl
-cases_zero (pos (suc n)) = inr (λ none. omega (arith, ints))
-cases_zero (negsuc n) = inr (λ none. omega (arith, ints))
 
 -- A number x that has turned from z, where r stands across: d and e are the denominators before and after, m and f the
 -- multiplier and the factor.
@@ -266,7 +262,7 @@ module _ (entering : Line) (column : ℕ) (olds news : List Line) (t : IsPivot e
     other_lead : (own pivots lead : ℕ) → IsLead (rows_of olds) c own → IsLead (rows_of olds) column pivots →
         IsToldLead (rows_of news) c own pivots lead (number_at entering.numbers c) → IsLead (rows_of news) c lead
     other_lead own pivots lead is other told =
-        elim (cases_zero (number_at entering.numbers c)) [
+        elim (some_or_none (number_at entering.numbers c)) [
           | inl none ↦ subst (IsLead (rows_of news) c) (sym (told.same none)) (lead_stays own is (λ v until. inr none))
           | inr across ↦ elim (cases_lt own pivots) [
             | inl earlier ↦ subst (IsLead (rows_of news) c) (sym (told.earlier earlier))
@@ -287,7 +283,7 @@ module _ (entering : Line) (column : ℕ) (olds news : List Line) (t : IsPivot e
   turned_lead c own pivots lead c_in alike is other told =
       elim (cases_eq c column) [
         | inr apart ↦ other_lead c c_in apart own pivots lead is other told
-        | inl here ↦ elim (cases_zero (number_at entering.numbers c)) [
+        | inl here ↦ elim (some_or_none (number_at entering.numbers c)) [
           | inl none ↦ subst (IsLead (rows_of news) c) (sym (told.same none)) (own_lead here)
           | inr across ↦ told.level across (alike here) (own_lead here).before
         ]

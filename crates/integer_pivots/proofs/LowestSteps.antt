@@ -17,15 +17,16 @@ use Rattle.whole_numbers.proofs.FractionLaws.{product_positive}
 use Rattle.whole_numbers.proofs.Sizes.{size_positive}
 use Rattle.integer_pivots.specs.declared.line.Line.{Line}
 use Rattle.integer_pivots.specs.declared.lowest.Lowest.{Lowest}
-use Rattle.integer_pivots.specs.declared.turn.Turn.{Turn}
+use Rattle.integer_pivots.specs.declared.turned_line.Turn.{Turn}
 use Rattle.integer_pivots.specs.Lines.{IsLine}
 use Rattle.integer_pivots.specs.Numbers.{AllWithin}
 use Rattle.integer_pivots.specs.Turns.{AreSmallAfter, IsAtPivot, IsLowestAfter, IsPartAfter, IsTurnedLine, turned_entry, turn_at, turned_number}
 use Rattle.integer_pivots.proofs.Quotients.{divided_is, quotient_times}
-use Rattle.integer_pivots.proofs.Sizes.{difference_small, number_within, positive_size, product_read, product_small, read, read_known, read_number, size_of}
+use Rattle.integer_pivots.proofs.Sizes.{difference_small, positive_size, product_read, product_small, read, read_known, read_number}
 use Rattle.integer_pivots.proofs.TurnLaws.{turn_positive, turn_small, wide, wide_number}
 use Rattle.integer_pivots.proofs.TurnedLines.{scaled}
 use Rattle.integer_pivots.proofs.WrittenPlaces.{AreWritten, all_more}
+use Rattle.integer_pivots.proofs.LineReads.{number_small}
 
 -- a line's number at the pivot's column, and at the others
 pub after_own : (turn : Turn) (pivots : ℕ) (entering line : Line) (c : ℕ) → c ≡ pivots →
@@ -46,13 +47,7 @@ pub after_same : (turn : Turn) (pivots : ℕ) (entering line other : Line) (c : 
 after_same turn pivots entering line other c same =
     ap (λ (z : ℤ). if c == pivots then turn.factor *ℤ entering.denominator else turned_number turn z (number_at entering.numbers c)) same
 
--- the sizes of a line's numbers and of its denominator
-pub line_number : (line : Line) (c : ℕ) → IsLine line → nat_abs (number_at line.numbers c) ≤ 2 ^ 30
-line_number line c is =
-    let reach = size_of line.reach (2 ^ 30) (is.reach_positive, is.reach) in
-    let number = number_within (nat_abs line.reach) line.numbers c is.numbers in
-    omega (arith, reach, number)
-
+-- the size of a line's denominator
 pub line_denominator : (line : Line) → IsLine line → nat_abs line.denominator ≤ 2 ^ 30
 line_denominator line is = positive_size line.denominator (2 ^ 30) (is.positive, is.denominator)
 
@@ -61,8 +56,8 @@ pub turn_sizes : (turn : Turn) (column : ℕ) (entering line : Line) → IsAtPiv
     (nat_abs turn.multiplier ≤ 2 ^ 30) × (nat_abs turn.factor ≤ 2 ^ 30) × (pos 0 <ℤ turn.multiplier)
 turn_sizes turn column entering line p is =
     let small = turn_small (number_at line.numbers column) (number_at entering.numbers column) in
-    let number = line_number line column p.turning in
-    let pivot = line_number entering column p.across in
+    let number = number_small line p.turning column in
+    let pivot = number_small entering p.across column in
     subst (λ (t : Turn). (nat_abs t.multiplier ≤ 2 ^ 30) × (nat_abs t.factor ≤ 2 ^ 30) × (pos 0 <ℤ t.multiplier)) (sym is) (
       omega (arith, small.0, pivot),
       omega (arith, small.1, number),
@@ -129,7 +124,8 @@ module _ (turn : Turn) (column : ℕ) (entering line : Line) where
       let g = gcd_is above below in
       subst (IsPartTo turn column entering line 0) (sym is) record {
         positive = gcd_high above below
-            (product_positive (nat_abs line.denominator) (nat_abs turn.multiplier) (size_positive line.denominator d_high) (size_positive turn.multiplier m_high));
+            (product_positive (nat_abs line.denominator) (nat_abs turn.multiplier) (size_positive line.denominator d_high)
+            (size_positive turn.multiplier m_high));
         denominator = g.1;
         constant = g.0;
         numbers = λ c c_in. absurd (omega (arith, c_in));

@@ -1,4 +1,5 @@
--- What a line comes to in lowest terms once it has turned: it is one, and goes into every other form of the turned line.
+-- What a line comes to in lowest terms once it has turned: it is one, and goes into every other form of the turned
+-- line.
 use Rattle.std.proofs.Common.{◌≡◌, ℕ, zero, suc, ◌*◌, ◌/◌, ◌^◌, ◌<◌, ◌≤◌, refl, sym, ◌∙◌, ap, subst, [], ◌∷◌, length, arith, inl, inr}
 use Rattle.std.specs.Prelude.{ℤ, pos, negsuc, ◌*ℤ◌, ◌<ℤ◌, ◌≤ℤ◌, nat_abs}
 use Prim.Native.Nat.{◌∣◌}
@@ -16,13 +17,14 @@ use Rattle.whole_numbers.proofs.Ring.{var, num, ◌⊗◌, ring_by, using, nothi
 use Rattle.whole_numbers.proofs.Sizes.{positive_is, size_positive}
 use Rattle.integer_pivots.specs.declared.line.Line.{Line}
 use Rattle.integer_pivots.specs.declared.lowest.Lowest.{Lowest}
-use Rattle.integer_pivots.specs.declared.turn.Turn.{Turn}
+use Rattle.integer_pivots.specs.declared.turned_line.Turn.{Turn}
 use Rattle.integer_pivots.specs.Lines.{IsLine}
 use Rattle.integer_pivots.specs.Turns.{AreSmallAfter, IsLowestAfter, IsPartAfter, IsTurnedLine, turned_entry, turned_number}
-use Rattle.integer_pivots.proofs.LowestSteps.{after_other, after_own, line_denominator, line_number}
+use Rattle.integer_pivots.proofs.LowestSteps.{after_other, after_own, line_denominator}
+use Rattle.integer_pivots.proofs.LineReads.{number_small}
 
 -- a positive factor is left out on both sides
-factor_out : (x y p : ℤ) → pos 0 <ℤ p → (x *ℤ p) ≡ (y *ℤ p) → x ≡ y
+pub factor_out : (x y p : ℤ) → pos 0 <ℤ p → (x *ℤ p) ≡ (y *ℤ p) → x ≡ y
 factor_out x y p high same =
     let is = positive_is p high in
     cancel (nat_abs p) x y (size_positive p high) (ap (λ (z : ℤ). x *ℤ z) (sym is) ∙ same ∙ ap (λ (z : ℤ). y *ℤ z) is)
@@ -146,7 +148,7 @@ module _ (turn : Turn) (column : ℕ) (entering line : Line) (lowest : Lowest) (
       (nat_abs lowest.denominator) (nat_abs lowest.part) N (size_positive lowest.denominator low.positive) (le_of_dvd N_some goes)
       (ap (λ (k : ℕ). nat_abs (number_at new.numbers c) * k) parts
       ∙ sizes (number_at new.numbers c) (turned_entry turn column entering line c) (stands c c_in))
-      (line_number new c small)
+      (number_small new small c)
 
   small_denominator : IsLine new → lowest.denominator ≤ℤ pos (2 ^ 30)
   small_denominator small =

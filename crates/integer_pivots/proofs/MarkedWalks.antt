@@ -15,6 +15,7 @@ pub walk_goes_on : (P : ℕ → ℤ → Type 0) (olds : List ℤ) (i : ℕ) (new
     ((c : ℕ) → i + 1 ≤ c → c < next → number_at after c ≡ pos 0) →
     ((c : ℕ) → number_at olds c ≡ pos 0 → P c (number_at olds c)) → AreWritten P (pos 0) olds next after
 walk_goes_on P olds i news after x next are i_in here is behind passed zero =
-    let one : AreWritten P (pos 0) olds (i + 1) after = subst (AreWritten P (pos 0) olds (i + 1)) (sym is) (one_written P (pos 0) olds i news x are i_in here) in
+    let one : AreWritten P (pos 0) olds (i + 1) after = subst (AreWritten P (pos 0) olds (i + 1)) (sym is) (one_written P (pos 0) olds i news x are i_in here)
+    in
     passed_written P (pos 0) olds (i + 1) next after one behind
     (λ c from before. zero c (sym (one.rest c from) ∙ passed c from before))

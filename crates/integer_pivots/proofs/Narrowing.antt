@@ -1,5 +1,5 @@
 -- Columns over the line's numbers there, put in order; and how those that are least are kept.
-use Rattle.std.proofs.Common.{◌≡◌, ℕ, zero, suc, ◌+◌, ◌^◌, ◌<◌, ◌≤◌, refl, sym, ◌∙◌, ap, subst, List, [], ◌∷◌, ◌++◌, length, take, drop, set, get_or, add-zero, arith, to_z, of_z, inl, inr, ◌⊎◌, w64}
+use Rattle.std.proofs.Common.{◌≡◌, ℕ, ◌+◌, ◌^◌, ◌<◌, ◌≤◌, refl, sym, ◌∙◌, ap, subst, List, [], ◌∷◌, ◌++◌, length, take, drop, set, get_or, add-zero, arith, to_z, of_z, inl, inr, ◌⊎◌, w64}
 use Rattle.std.specs.Prelude.{ℤ, pos, negsuc, ◌+ℤ◌, ◌-ℤ◌, ◌*ℤ◌, ◌<ℤ◌, ◌≤ℤ◌, FitsSigned, slice_index}
 use Rattle.std.proofs.lemmas.Int.{ints, fits_signed_mul, fits_signed_from_abs, to_z-of_z}
 use Rattle.std.proofs.lemmas.Bool.{cases_eq, cases_lt}
@@ -11,6 +11,7 @@ use Rattle.whole_numbers.proofs.Orders.{scaled_cmp, opposite_product, negative_p
 use lib.IntN.{zero-*ℤ}
 use Rattle.std.specs.Ordering.{int_cmp}
 use Rattle.cost_base.specs.Lists.{Has}
+use Rattle.cost_base.proofs.ListLemmas.{has_at, taken_has}
 use Rattle.whole_numbers.specs.Lists.{number_at}
 use Rattle.integer_pivots.specs.Numbers.{AllWithin}
 use Rattle.integer_pivots.specs.Choices.{AreLatest, AreLeast, IsPositiveAt, crosswise}
@@ -302,18 +303,6 @@ latest_alone line leads column latest lead left are positive level later = recor
   some = λ later. omega arith;
 }
 
--- columns by their places
-pub has_at : (xs : List ℕ) (i : ℕ) → i < length xs → Has xs (get_or xs i 0)
-has_at [] i i_in = absurd (omega arith)
-has_at (x ∷ xs) zero i_in = inl refl
-has_at (x ∷ xs) (suc i) i_in = inr (has_at xs i (omega arith))
-
-has_taken : (n : ℕ) (xs : List ℕ) (c : ℕ) → Has (take n xs) c → Has xs c
-has_taken zero xs c has = absurd has
-has_taken (suc n) [] c has = absurd has
-has_taken (suc n) (x ∷ xs) c (inl same) = inl same
-has_taken (suc n) (x ∷ xs) c (inr has) = inr (has_taken n xs c has)
-
 -- a column at a place is to be looked at: the least before it stand in front
 pub record IsUnderway (numbers line : List ℤ) (olds now : List ℕ) (kept index : ℕ) : Type 0 where
   pub each : (c : ℕ) → Has olds c → IsPositiveAt line c
@@ -334,7 +323,7 @@ module _ (numbers line : List ℤ) (olds now : List ℕ) (kept index : ℕ) (s :
   seen_more = take_more olds index 0 (omega (arith, s)) ∙ ap (λ (x : ℕ). take index olds ++ x ∷ []) (sym column_is)
 
   seen_each : (c : ℕ) → Has (take index olds) c → IsPositiveAt line c
-  seen_each c has = s.each c (has_taken index olds c has)
+  seen_each c has = s.each c (taken_has index olds c has)
 
   first_has : Has (take kept now) (get_or now 0 0)
   first_has =

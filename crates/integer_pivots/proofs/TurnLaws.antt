@@ -12,7 +12,7 @@ use Rattle.whole_numbers.specs.Fractions.{exact_quotient, gcd, lcm}
 use Rattle.whole_numbers.proofs.Divisors.{gcd-one, gcd-swap, gcd-zero, gcd_is, quotient_positive}
 use Rattle.whole_numbers.proofs.Ring.{var, num, ◌⊖◌, ◌⊗◌, ring_by, using, nothing}
 use Rattle.whole_numbers.proofs.Sizes.{positive_is, size_positive}
-use Rattle.integer_pivots.specs.declared.turn.Turn.{Turn}
+use Rattle.integer_pivots.specs.declared.turned_line.Turn.{Turn}
 use Rattle.integer_pivots.specs.Numbers.{AllWithin, greatest_of}
 use Rattle.integer_pivots.specs.Turns.{turn_by, turned_number}
 use Rattle.integer_pivots.proofs.Quotients.{common_positive, quotient_one, quotient_size, quotient_times}
@@ -265,8 +265,10 @@ module _ (t : Turn) (n e m' n' f' e' : ℤ) (m_small : nat_abs t.multiplier ≤ 
   wide_is : (wide (wide m' *ℤ wide n') -ℤ wide (wide f' *ℤ wide e')) ≡ turned_number t n e
   wide_is =
       ap₂ (λ (x y : ℤ). x -ℤ y)
-      (wide_product m' n' t.multiplier n (m_is ∙ read_number t.multiplier (omega (arith, m_small))) (n_is ∙ to_z-of_z w64 n n_fits) m_small (fitting_size n n_fits.sfits))
-      (wide_product f' e' t.factor e (f_is ∙ read_number t.factor (omega (arith, f_small))) (e_is ∙ to_z-of_z w64 e e_fits) f_small (fitting_size e e_fits.sfits))
+      (wide_product m' n' t.multiplier n (m_is ∙ read_number t.multiplier (omega (arith, m_small))) (n_is ∙ to_z-of_z w64 n n_fits) m_small
+      (fitting_size n n_fits.sfits))
+      (wide_product f' e' t.factor e (f_is ∙ read_number t.factor (omega (arith, f_small))) (e_is ∙ to_z-of_z w64 e e_fits) f_small
+      (fitting_size e e_fits.sfits))
 
   wide_small : nat_abs (turned_number t n e) < 2 ^ 127
   wide_small =

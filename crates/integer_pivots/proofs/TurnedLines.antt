@@ -5,8 +5,6 @@ use Rattle.std.specs.Prelude.{ℤ, pos, negsuc, ◌-ℤ◌, ◌*ℤ◌, ◌<ℤ�
 use Rattle.std.specs.Int.Signed.{mag, quot_z}
 use Prim.Native.Nat.{◌∣◌}
 use Rattle.std.proofs.lemmas.Bool.{cases_eq}
-use Rattle.std.proofs.Math.IntN.{pos-*ℤ-pos}
-use Rattle.whole_numbers.proofs.FractionLaws.{product_positive}
 use Rattle.std.proofs.lemmas.Int.{fits_signed_from_abs, ints, unsigned_abs-mul}
 use Rattle.std.proofs.lemmas.List.{get_or_default}
 use Rattle.std.proofs.lemmas.Nat.Gcd.{dvd-zero, dvd_trans}
@@ -18,7 +16,7 @@ use Rattle.whole_numbers.proofs.Orders.{opposite_product}
 use Rattle.whole_numbers.proofs.Ring.{var, num, ◌⊖◌, ◌⊗◌, ring_by, using, nothing}
 use Rattle.whole_numbers.proofs.Sizes.{positive_is, size_positive}
 use Rattle.integer_pivots.specs.declared.line.Line.{Line}
-use Rattle.integer_pivots.specs.declared.turn.Turn.{Turn}
+use Rattle.integer_pivots.specs.declared.turned_line.Turn.{Turn}
 use Rattle.integer_pivots.specs.Lines.{IsInLowestTerms}
 use Rattle.integer_pivots.specs.Numbers.{AllWithin, greatest_of}
 use Rattle.integer_pivots.specs.Turns.{IsAtPivot, IsTurnedOver, IsTurning, MayLineTurn, turn_at, turned_number}
@@ -26,19 +24,13 @@ use Rattle.integer_pivots.proofs.LineLaws.{factor_one}
 use Rattle.integer_pivots.proofs.Quotients.{bits_of}
 use Rattle.integer_pivots.proofs.Sizes.{difference_small, number_within, positive_size, product_read, product_size, read, read_known, read_number}
 use Rattle.integer_pivots.proofs.TurnLaws.{greatest_within, product_of_read, sizes_kept, turn_level}
+use Rattle.integer_pivots.proofs.ShareLaws.{times_positive}
 
 -- what stands over a part stands for the same
 pub scaled : (x X D d k : ℤ) → D ≡ (d *ℤ k) → X ≡ (x *ℤ k) → (x *ℤ D) ≡ (X *ℤ d)
 scaled x X D d k D_is X_is =
     ring_by (x ∷ X ∷ D ∷ d ∷ k ∷ []) (var 0 ⊗ var 2) (var 1 ⊗ var 3)
     (using (var 0) (var 2) (var 3 ⊗ var 4) D_is (using (num (negsuc 0) ⊗ var 3) (var 1) (var 0 ⊗ var 4) X_is nothing)) refl
-
--- the product of positive numbers
-pub product_high : (a b : ℤ) → pos 0 <ℤ a → pos 0 <ℤ b → pos 0 <ℤ (a *ℤ b)
-product_high a b a_high b_high =
-    subst (λ (z : ℤ). pos 0 <ℤ z)
-    (sym (ap₂ (λ (y z : ℤ). y *ℤ z) (positive_is a a_high) (positive_is b b_high) ∙ pos-*ℤ-pos (nat_abs a) (nat_abs b)))
-    (let some = product_positive (nat_abs a) (nat_abs b) (size_positive a a_high) (size_positive b b_high) in omega (arith, ints, some))
 
 -- what the denominator, the constant and all turned numbers have in common, that at the pivot's column too
 pub record IsTurnPart (turn : Turn) (entering old : Line) (part : ℤ) : Type 0 where
@@ -104,7 +96,8 @@ module _ (turn : Turn) (column : ℕ) (entering old : Line) (t : IsTurning turn 
       let own = t.small.own in
       omega (arith, more, own)
 
-  pub turning_small : (c : ℕ) → nat_abs turn.multiplier * nat_abs (number_at old.numbers c) + nat_abs turn.factor * nat_abs (number_at entering.numbers c) ≤ 2 ^ 30
+  pub turning_small : (c : ℕ) → nat_abs turn.multiplier * nat_abs (number_at old.numbers c) + nat_abs turn.factor * nat_abs (number_at entering.numbers c) ≤ 2 ^
+      30
   turning_small c =
       sizes_kept (nat_abs turn.multiplier) (nat_abs turn.factor) (nat_abs (number_at old.numbers c)) (greatest_of old.numbers)
       (nat_abs (number_at entering.numbers c)) (greatest_of entering.numbers)
@@ -237,7 +230,7 @@ pub begins_turning : (turn : Turn) (column : ℕ) (entering old : Line) (D C : �
     IsTurning turn column entering (record { denominator = D; constant = C; numbers = old.numbers; reach = old.reach })
 begins_turning turn column entering old D C pivot is may positive D_is C_is = record {
   across = pivot.across;
-  positive = subst (λ (z : ℤ). pos 0 <ℤ z) (sym D_is) (product_high old.denominator turn.multiplier pivot.turning.positive positive);
+  positive = subst (λ (z : ℤ). pos 0 <ℤ z) (sym D_is) (times_positive old.denominator turn.multiplier pivot.turning.positive positive);
   denominator = size_below D (2 ^ 30) (let small = may.denominator in omega (arith, ap nat_abs D_is, unsigned_abs-mul old.denominator turn.multiplier, small));
   constant = let small = may.constant in omega (arith, ap nat_abs C_is, small);
   long = pivot.long;

@@ -13,7 +13,7 @@ use Rattle.whole_numbers.specs.Lists.{number_at}
 use Rattle.whole_numbers.proofs.Divisors.{gcd_is}
 use Rattle.whole_numbers.proofs.Ring.{var, num, ◌⊗◌, ring, ring_by, using, nothing}
 use Rattle.integer_pivots.specs.declared.reciprocal.Divisor.{Divisor}
-use Rattle.integer_pivots.specs.declared.turn.Turn.{Turn}
+use Rattle.integer_pivots.specs.declared.turned_line.Turn.{Turn}
 use Rattle.integer_pivots.specs.Reciprocals.{ArePutOver, IsReciprocal}
 use Rattle.integer_pivots.specs.Turns.{turned_number}
 use Rattle.integer_pivots.proofs.Sizes.{difference_small, product_size, read, read_number}

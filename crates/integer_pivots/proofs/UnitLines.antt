@@ -1,18 +1,11 @@
 -- The numbers of the lines at the basis of the forms x - low.
-use Rattle.std.proofs.Common.{◌≡◌, ℕ, ◌<◌, ◌≢◌, cond, true, false, sym, ◌∙◌, ap, List, map, length, arith, inl, inr, zero-add, get_or-set_same, get_or-set_other}
+use Rattle.std.proofs.Common.{◌≡◌, ℕ, ◌<◌, cond, sym, ◌∙◌, ap, List, map, length, arith, inl, inr, zero-add, get_or-set_same, get_or-set_other}
 use Rattle.std.specs.Prelude.{ℤ, pos, ◌==◌, slice_index_or, slice_set}
-use Rattle.std.proofs.lemmas.Bool.{cases_eq}
-use Rattle.std.proofs.lemmas.Bool.Decides.{nat_tests}
+use Rattle.std.proofs.lemmas.Bool.{cases_eq, eq-eqb, ne_eqb}
 use Rattle.std.proofs.lemmas.List.{ext_get_or, length-set}
 use Rattle.cost_base.specs.Lists.{numbers_from}
 use Rattle.cost_base.proofs.ListLemmas.{get_or-map-numbers_from, length-map-numbers_from}
 use Rattle.design_problem.specs.Basis.{unit}
-
-test_same : (a b : ℕ) → a ≡ b → (a == b) ≡ true
-test_same a b e = grind (arith, nat_tests)
-
-test_other : (a b : ℕ) → a ≢ b → (a == b) ≡ false
-test_other a b e = grind (arith, nat_tests)
 
 -- zeros with a 1 at one place
 module _ (width v : ℕ) (v_in : v < width) where
@@ -41,11 +34,11 @@ module _ (width v : ℕ) (v_in : v < width) where
         | inl same ↦
             ap (λ (j : ℕ). slice_index_or (slice_set blank v (pos 1)) j (pos 0)) same
             ∙ get_or-set_same blank v (pos 1) (pos 0) (omega (arith, zeros_are_long, v_in))
-            ∙ sym (ap (λ b. cond b (pos 1) (pos 0)) (test_same k v same))
+            ∙ sym (ap (λ b. cond b (pos 1) (pos 0)) (eq-eqb k v same))
         | inr other ↦
             get_or-set_other blank v k (pos 1) (pos 0) other
             ∙ zero_at k k_in
-            ∙ sym (ap (λ b. cond b (pos 1) (pos 0)) (test_other k v other))
+            ∙ sym (ap (λ b. cond b (pos 1) (pos 0)) (ne_eqb k v other))
       ]
 
   unit_set : slice_set blank v (pos 1) ≡ unit width v (pos 1)

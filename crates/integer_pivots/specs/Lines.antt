@@ -17,7 +17,7 @@ pub record IsLine (line : Line) : Type 0 where
 abbrev pub no_line : Line
 no_line = record { denominator = pos 1; constant = pos 0; numbers = []; reach = pos 0 }
 
--- the numbers at the columns of lines, a row for each
+-- the numbers at the columns of lines, a list for each
 abbrev pub rows_of : List Line → List (List ℤ)
 rows_of lines = map (λ line. line.numbers) lines
 

@@ -9,8 +9,8 @@ pub record IsReciprocal (d : Divisor) : Type 0 where
   pub small : d.number ≤ℤ pos (2 ^ 30)
   pub value : d.reciprocal ≡ 2 ^ 63 / nat_abs d.number + 1
 
--- A number is put at a column, over a new divisor; the numbers before it, which stood over the old one, stand for the same
--- over the new one.
+-- A number is put at a column, over a new divisor; the numbers before it, which stood over the old one, stand for the
+-- same over the new one.
 pub record ArePutOver (column : ℕ) (number : ℤ) (olds : List ℤ) (old : ℤ) (news : List ℤ) (new : ℤ) : Type 0 where
   pub count : length news ≡ length olds
   pub before : (c : ℕ) → c < column → (number_at news c *ℤ new) ≡ (number_at olds c *ℤ old)

@@ -5,7 +5,7 @@ use Rattle.whole_numbers.specs.Fractions.{exact_quotient, gcd, lcm}
 use Rattle.whole_numbers.specs.Lists.{number_at}
 use Rattle.integer_pivots.specs.declared.line.Line.{Line}
 use Rattle.integer_pivots.specs.declared.lowest.Lowest.{Lowest}
-use Rattle.integer_pivots.specs.declared.turn.Turn.{Turn}
+use Rattle.integer_pivots.specs.declared.turned_line.Turn.{Turn}
 use Rattle.integer_pivots.specs.Lines.{IsLine, no_line}
 use Rattle.integer_pivots.specs.Numbers.{greatest_of}
 
@@ -46,10 +46,12 @@ pub record IsTurnedLine (turn : Turn) (column : ℕ) (entering old new : Line) :
   pub count : length new.numbers ≡ length old.numbers
   pub constant : (new.constant *ℤ (old.denominator *ℤ turn.multiplier)) ≡ (turned_number turn old.constant entering.constant *ℤ new.denominator)
   pub others : (c : ℕ) → c < length old.numbers → c ≢ column →
-      (number_at new.numbers c *ℤ (old.denominator *ℤ turn.multiplier)) ≡ (turned_number turn (number_at old.numbers c) (number_at entering.numbers c) *ℤ new.denominator)
+      (number_at new.numbers c *ℤ (old.denominator *ℤ turn.multiplier)) ≡
+      (turned_number turn (number_at old.numbers c) (number_at entering.numbers c) *ℤ new.denominator)
   pub own : (number_at new.numbers column *ℤ (old.denominator *ℤ turn.multiplier)) ≡ ((turn.factor *ℤ entering.denominator) *ℤ new.denominator)
 
--- A line of which the constant and the denominator have turned and the numbers are to; the turn makes 0 of the column's.
+-- A line of which the constant and the denominator have turned and the numbers are to; the turn makes 0 of the
+-- column's.
 pub record IsTurning (turn : Turn) (column : ℕ) (entering line : Line) : Type 0 where
   pub across : IsLine entering
   pub positive : pos 0 <ℤ line.denominator
@@ -62,8 +64,8 @@ pub record IsTurning (turn : Turn) (column : ℕ) (entering line : Line) : Type 
   pub multiplier : pos 0 <ℤ turn.multiplier
   pub multiplied : nat_abs turn.multiplier ∣ nat_abs line.denominator
 
--- The second line is the first one with its numbers turned, all of it over a part; at the column stands the factor times
--- the entering line's denominator, over the part.
+-- The second line is the first one with its numbers turned, all of it over a part; at the column stands the factor
+-- times the entering line's denominator, over the part.
 pub record IsTurnedOver (turn : Turn) (column : ℕ) (entering old new : Line) (part : ℤ) : Type 0 where
   pub positive : pos 0 <ℤ part
   pub denominator : (new.denominator *ℤ part) ≡ old.denominator
@@ -113,7 +115,8 @@ pub record IsPartAfter (turn : Turn) (column : ℕ) (entering line : Line) (part
       d ∣ nat_abs (turned_number turn line.constant entering.constant) →
       ((c : ℕ) → c < length line.numbers → d ∣ nat_abs (turned_entry turn column entering line c)) → d ∣ nat_abs part
 
--- what a line that has turned comes to in lowest terms: its denominator and its constant, over what all its numbers have in common
+-- what a line that has turned comes to in lowest terms: its denominator and its constant, over what all its numbers
+-- have in common
 pub record IsLowestAfter (turn : Turn) (column : ℕ) (entering line : Line) (lowest : Lowest) : Type 0 where
   pub part : IsPartAfter turn column entering line lowest.part
   pub positive : pos 0 <ℤ lowest.denominator

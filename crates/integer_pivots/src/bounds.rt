@@ -15,7 +15,7 @@ pub const WEIGHT_LIMIT: i64 = 1 << 16;
 pub const FACTOR_LIMIT: i64 = 1 << 32;
 
 /// The greater of a size and a number's size.
-pub fn greater_size(most: i64, number: i64) -> i64
+pub(crate) fn greater_size(most: i64, number: i64) -> i64
     // `most` is a size, and that of the number is at most 2^62.
     requires from_zero { pos 0 ≤ℤ most }
     requires number { nat_abs number ≤ 2 ^ 62 }

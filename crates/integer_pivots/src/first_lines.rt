@@ -5,28 +5,9 @@ ghost use Rattle.integer_pivots.specs.UnitLines.{unit_line_of};
 
 use crate::line::Line;
 use crate::marked::MarkedNumbers;
-use crate::turn::Turn;
+use crate::turned_line::Turn;
 use cost_base::OutOfMemory;
 use std::alloc::Global;
-
-/// A thing as often as asked for.
-///
-/// # Errors
-///
-/// `OutOfMemory`.
-pub(crate) fn repeated<T: Copy>(
-    alloc: Global,
-    thing: T,
-    count: usize,
-) -> Result<Vec<T>, OutOfMemory>
-    ensures { IfOk result (λ list. list.items ≡ map (λ place. thing) (numbers_from 0 count)) }
-{
-    let mut list = Vec::new(alloc);
-    for _ in 0..count {
-        list.push(thing)?;
-    }
-    Ok(list)
-}
 
 /// A list of zeros.
 ///
@@ -36,7 +17,7 @@ pub(crate) fn repeated<T: Copy>(
 pub fn zeros(alloc: Global, count: usize) -> Result<Vec<i64>, OutOfMemory>
     ensures { IfOk result (λ list. list.items ≡ map (λ place. pos 0) (numbers_from 0 count)) }
 {
-    repeated(alloc, 0, count)
+    Ok(vec![in alloc; 0; count]?)
 }
 
 /// Room for so many columns.
@@ -58,14 +39,11 @@ pub fn room_of(alloc: Global, width: usize) -> Result<Vec<usize>, OutOfMemory>
 pub fn no_turns(alloc: Global, width: usize) -> Result<Vec<Turn>, OutOfMemory>
     ensures { IfOk result (λ turns. length turns.items ≡ width) }
 {
-    let mut turns = Vec::new(alloc);
-    for _ in 0..width {
-        turns.push(Turn {
-            multiplier: 1,
-            factor: 0,
-        })?;
-    }
-    Ok(turns)
+    let unturned = Turn {
+        multiplier: 1,
+        factor: 0,
+    };
+    Ok(vec![in alloc; unturned; width]?)
 }
 
 /// The line of a form x - low at the starting basis: 1 in its own column.

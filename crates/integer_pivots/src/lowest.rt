@@ -6,7 +6,7 @@ ghost use Rattle.integer_pivots.specs.Turns.{AreSmallAfter, IsAtPivot, IsLowestA
 
 use crate::bounds::{ENTRY_LIMIT, greatest, within};
 use crate::line::{Line, common_with, over};
-use crate::turn::Turn;
+use crate::turned_line::Turn;
 use whole_numbers::greatest_common_divisor;
 
 /// What a line that has turned comes to in lowest terms, but for its numbers at the columns.

@@ -5,7 +5,6 @@ ghost use Rattle.cost_base.specs.Lists.{numbers_from};
 ghost use Rattle.whole_numbers.specs.Lists.{number_at};
 ghost use Rattle.integer_pivots.specs.Marks.{AreNumbersMarked, IsUnmarked};
 
-use crate::first_lines::repeated;
 use cost_base::OutOfMemory;
 use std::alloc::Global;
 use std::marker::Model;
@@ -126,8 +125,8 @@ impl MarkedNumbers {
         ensures { IfOk result (λ zeros. zeros ≡ map (λ place. pos 0) (numbers_from 0 width)) }
     {
         Ok(MarkedNumbers {
-            numbers: repeated(alloc, 0, width)?,
-            marks: repeated(alloc, 0, width / 64 + 1)?,
+            numbers: vec![in alloc; 0; width]?,
+            marks: vec![in alloc; 0; width / 64 + 1]?,
         })
     }
 

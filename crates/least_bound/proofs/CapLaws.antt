@@ -15,16 +15,16 @@ use Rattle.design_problem.proofs.Renumbering.{opens_kept}
 use Rattle.cost_branching.specs.Pools.{Pooled, IsRowPool, MoreRows}
 use Rattle.cost_branching.specs.Decisions.{IsDecided, IsTreeAt}
 use Rattle.form_search.specs.declared.found.Found.TheVariants.{Costs as FoundCosts, Refuted}
-use Rattle.least_bound.specs.declared.progress.Best.{Best}
-use Rattle.least_bound.specs.declared.progress.Best.TheVariants.{NoCosts, Costs, Between}
-use Rattle.least_bound.specs.declared.progress.Progress.{Progress}
+use Rattle.least_bound.specs.declared.so_far.Best.{Best}
+use Rattle.least_bound.specs.declared.so_far.Best.TheVariants.{NoCosts, Costs, Between}
+use Rattle.least_bound.specs.declared.so_far.SoFar.{SoFar}
 use Rattle.printed_rows.proofs.CostLaws.{greatest-le}
 use Rattle.printed_rows.proofs.CapBoxes.{within_cap}
-use Rattle.least_bound.specs.Caps.{BestHolds, IsKeptAt, IsProgress, IsRefuted, IsUndecidedAt}
+use Rattle.least_bound.specs.Caps.{BestHolds, IsKeptAt, IsBoundSoFar, IsRefuted, IsUndecidedAt}
 
 -- fit costs have a greatest cost from the greatest lower bound on
-pub floor_lowest : (p : DesignProblem) (w : List ℕ) → IsFit p w → greatest_cost p.low ≤ greatest_cost w
-floor_lowest p w fit = greatest-le p.low (greatest_cost w) (λ k k_in.
+pub lowest_cap_below : (p : DesignProblem) (w : List ℕ) → IsFit p w → greatest_cost p.low ≤ greatest_cost w
+lowest_cap_below p w fit = greatest-le p.low (greatest_cost w) (λ k k_in.
     let low = fit.within.above k (omega (arith, fit.within.low_count)) in
     let most = le_greatest w k (omega (arith, fit.within.low_count)) in
     omega arith)
@@ -65,66 +65,66 @@ best_grown p top nodes old new most (Costs w) grows holds = holds
 best_grown p top nodes old new most (Between w t) grows holds = (holds.0, holds.1, holds.2, used_up_grown p top nodes old new t grows holds.3)
 
 -- at the greatest bound
-pub progress_starts : (p : DesignProblem) (top nodes : ℕ) (pool : Pooled) (floor most : ℕ) (best : Best) →
-    floor ≡ greatest_cost p.low → greatest_cost p.low ≤ most → BestHolds p top nodes pool most best →
-    IsProgress p top nodes pool (record { floor = floor; least = floor; most = most; kept = None; best = best })
-progress_starts p top nodes pool floor most best is ordered holds = record {
-  floor = is;
-  from_floor = omega arith;
+pub so_far_starts : (p : DesignProblem) (top nodes : ℕ) (pool : Pooled) (lowest_cap most : ℕ) (best : Best) →
+    lowest_cap ≡ greatest_cost p.low → greatest_cost p.low ≤ most → BestHolds p top nodes pool most best →
+    IsBoundSoFar p top nodes pool (record { lowest_cap = lowest_cap; least = lowest_cap; most = most; kept = None; best = best })
+so_far_starts p top nodes pool lowest_cap most best is ordered holds = record {
+  lowest_cap = is;
+  from_lowest_cap = omega arith;
   ordered = omega arith;
-  none_lower = λ w fit. let lowest = floor_lowest p w fit in omega arith;
+  none_lower = λ w fit. let lowest = lowest_cap_below p w fit in omega arith;
   kept = is;
   best = holds;
 }
 
 -- costs take the place of earlier ones
-pub after_costs : (p : DesignProblem) (top nodes : ℕ) (old new : Pooled) (progress : Progress) (w : List ℕ) (most : ℕ) →
-    MoreRows old new → IsProgress p top nodes old progress → IsFit p w → most ≡ greatest_cost w →
-    IsProgress p top nodes new (record { floor = progress.floor; least = progress.least; most = most; kept = progress.kept; best = Costs w })
-after_costs p top nodes old new progress w most grows holds fit is = record {
-  floor = holds.floor;
-  from_floor = holds.from_floor;
+pub after_costs : (p : DesignProblem) (top nodes : ℕ) (old new : Pooled) (so_far : SoFar) (w : List ℕ) (most : ℕ) →
+    MoreRows old new → IsBoundSoFar p top nodes old so_far → IsFit p w → most ≡ greatest_cost w →
+    IsBoundSoFar p top nodes new (record { lowest_cap = so_far.lowest_cap; least = so_far.least; most = most; kept = so_far.kept; best = Costs w })
+after_costs p top nodes old new so_far w most grows holds fit is = record {
+  lowest_cap = holds.lowest_cap;
+  from_lowest_cap = holds.from_lowest_cap;
   ordered = let lowest = holds.none_lower w fit in omega arith;
   none_lower = holds.none_lower;
-  kept = kept_grown p top nodes old new progress.least progress.kept grows holds.kept;
+  kept = kept_grown p top nodes old new so_far.least so_far.kept grows holds.kept;
   best = (fit, sym is);
 }
 
 -- a refuted cap
-pub after_refuted : (p : DesignProblem) (top nodes : ℕ) (old new : Pooled) (progress : Progress) (cap : ℕ)
-    (tree : List Entry) → IsProblem p → IsRowPool p new → MoreRows old new → progress.least ≤ cap → cap < progress.most →
-    IsProgress p top nodes old progress →
+pub after_refuted : (p : DesignProblem) (top nodes : ℕ) (old new : Pooled) (so_far : SoFar) (cap : ℕ)
+    (tree : List Entry) → IsProblem p → IsRowPool p new → MoreRows old new → so_far.least ≤ cap → cap < so_far.most →
+    IsBoundSoFar p top nodes old so_far →
     IsDecided p top nodes cap new (Refuted tree) →
-    IsProgress p top nodes new (record {
-      floor = progress.floor;
+    IsBoundSoFar p top nodes new (record {
+      lowest_cap = so_far.lowest_cap;
       least = cap + 1;
-      most = progress.most;
+      most = so_far.most;
       kept = Some (record { cap = cap; tree = tree });
-      best = progress.best;
+      best = so_far.best;
     })
-after_refuted p top nodes old new progress cap tree problem pool grows from below holds decided = record {
-  floor = holds.floor;
-  from_floor = omega (arith, holds.from_floor);
+after_refuted p top nodes old new so_far cap tree problem pool grows from below holds decided = record {
+  lowest_cap = holds.lowest_cap;
+  from_lowest_cap = omega (arith, holds.from_lowest_cap);
   ordered = omega arith;
   none_lower = λ w fit.
       let above = tree_bounds p new.rows cap tree problem pool.rows
       (earnest_tree_sound (LeadsEach p) top (forms_of_rows p new.rows) (capped (box_of p) cap) tree
       decided.0.earnest) decided.1 w fit in
       omega arith;
-  kept = (refl, omega (arith, holds.floor, holds.from_floor), record { tree = decided.0; closed = decided.1; few = decided.2 });
-  best = best_grown p top nodes old new progress.most progress.best grows holds.best;
+  kept = (refl, omega (arith, holds.lowest_cap, holds.from_lowest_cap), record { tree = decided.0; closed = decided.1; few = decided.2 });
+  best = best_grown p top nodes old new so_far.most so_far.best grows holds.best;
 }
 
 -- a cap at which the budget was used up
-pub after_used_up : (p : DesignProblem) (top nodes : ℕ) (old new : Pooled) (progress : Progress) (cap : ℕ) (best : Best) →
-    MoreRows old new → progress.least ≤ cap → IsProgress p top nodes old progress → BestHolds p top nodes new cap best →
-    IsProgress p top nodes new (record { floor = progress.floor; least = progress.least; most = cap; kept = progress.kept; best = best })
-after_used_up p top nodes old new progress cap best grows from holds there = record {
-  floor = holds.floor;
-  from_floor = holds.from_floor;
+pub after_used_up : (p : DesignProblem) (top nodes : ℕ) (old new : Pooled) (so_far : SoFar) (cap : ℕ) (best : Best) →
+    MoreRows old new → so_far.least ≤ cap → IsBoundSoFar p top nodes old so_far → BestHolds p top nodes new cap best →
+    IsBoundSoFar p top nodes new (record { lowest_cap = so_far.lowest_cap; least = so_far.least; most = cap; kept = so_far.kept; best = best })
+after_used_up p top nodes old new so_far cap best grows from holds there = record {
+  lowest_cap = holds.lowest_cap;
+  from_lowest_cap = holds.from_lowest_cap;
   ordered = from;
   none_lower = holds.none_lower;
-  kept = kept_grown p top nodes old new progress.least progress.kept grows holds.kept;
+  kept = kept_grown p top nodes old new so_far.least so_far.kept grows holds.kept;
   best = there;
 }
 

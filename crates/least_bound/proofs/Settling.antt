@@ -10,16 +10,16 @@ use Rattle.design_problem.specs.Answers.{AnswerParts, greatest_bound}
 use Rattle.cut_advisors.specs.declared.candidate.Candidate.{Candidate}
 use Rattle.form_search.specs.declared.found.Found.{Found}
 use Rattle.form_search.specs.declared.found.Found.TheVariants.{Costs as FoundCosts, Refuted, Undecided}
-use Rattle.form_search.specs.Advised.{AreAdvisorsLeft, IsSearched}
+use Rattle.form_search.specs.AdvisorsAsked.{AreAdvisorsLeft, IsSearched}
 use Rattle.printed_rows.specs.NewNumbers.{ArePrinted, HasNumbers, named_in, new_number}
 use Rattle.cost_branching.specs.Pools.{Pooled}
-use Rattle.cost_branching.specs.Advising.{IsAskedAt}
+use Rattle.cost_branching.specs.AdvisorsAsked.{IsAskedAt}
 use Rattle.cost_branching.proofs.Advising.{cap_searched, turns_left}
-use Rattle.least_bound.specs.declared.progress.Best.{Best}
-use Rattle.least_bound.specs.declared.progress.Best.TheVariants.{Costs}
-use Rattle.least_bound.specs.declared.progress.Progress.{Progress}
-use Rattle.least_bound.specs.Asking.{AreAskedAtCaps, AreCapsBehind, AreCapsInOrder, AreSettledCaps, CapDecision, CapsSoFar, TellsCaps, TellsFound, after_cap, after_greatest_bound, cap_between, next_cap, unfinished_after}
-use Rattle.least_bound.specs.Caps.{caps_of, known_costs, unfinished_of}
+use Rattle.least_bound.specs.declared.so_far.Best.{Best}
+use Rattle.least_bound.specs.declared.so_far.Best.TheVariants.{Costs}
+use Rattle.least_bound.specs.declared.so_far.SoFar.{SoFar}
+use Rattle.least_bound.specs.AdvisorsAsked.{AreAskedAtCaps, AreCapsBehind, AreCapsInOrder, AreSettledCaps, CapDecision, CapsSoFar, TellsCaps, TellsFound, after_cap, after_greatest_bound, cap_between, next_cap, undecided_after}
+use Rattle.least_bound.specs.Caps.{caps_of, known_costs, undecided_of}
 use Rattle.least_bound.specs.Printing.{ArePrintedIfAny}
 
 -- a cap, and what a search found at it
@@ -46,28 +46,28 @@ ended_before p old new ds a before next tells =
     subst (λ (es : List CapDecision). AreCapsInOrder p old es a) (append-nil ds) (before [] a (next, tells))
 
 -- the next cap by what is known
-pub next_is : (p : DesignProblem) (progress : Progress) (next : Option ℕ) → progress.floor ≡ greatest_cost p.low →
-    next ≡ cap_between progress.floor progress.least progress.most (known_costs progress.best) → next_cap p (caps_of progress) ≡ next
-next_is p progress next floor is = sym (is ∙ ap (λ (k : ℕ). cap_between k progress.least progress.most (known_costs progress.best)) floor)
+pub next_is : (p : DesignProblem) (so_far : SoFar) (next : Option ℕ) → so_far.lowest_cap ≡ greatest_cost p.low →
+    next ≡ cap_between so_far.lowest_cap so_far.least so_far.most (known_costs so_far.best) → next_cap p (caps_of so_far) ≡ next
+next_is p so_far next lowest_cap is = sym (is ∙ ap (λ (k : ℕ). cap_between k so_far.least so_far.most (known_costs so_far.best)) lowest_cap)
 
 -- What is known behind a cap.
 
 -- costs were found at it
-pub caps_costs : (progress : Progress) (cap most : ℕ) (found : Found) (w : List ℕ) → found ≡ FoundCosts w → most ≡ greatest_cost w →
-    caps_of (record progress { most = most; best = Costs w }) ≡ after_cap (caps_of progress) cap found
-caps_costs progress cap most found w found_is most_is =
-    ap (λ (k : ℕ). caps_of (record progress { most = k; best = Costs w })) most_is ∙ ap (λ (f : Found). after_cap (caps_of progress) cap f) (sym found_is)
+pub caps_costs : (so_far : SoFar) (cap most : ℕ) (found : Found) (w : List ℕ) → found ≡ FoundCosts w → most ≡ greatest_cost w →
+    caps_of (record so_far { most = most; best = Costs w }) ≡ after_cap (caps_of so_far) cap found
+caps_costs so_far cap most found w found_is most_is =
+    ap (λ (k : ℕ). caps_of (record so_far { most = k; best = Costs w })) most_is ∙ ap (λ (f : Found). after_cap (caps_of so_far) cap f) (sym found_is)
 
 -- the budget was used up at it
-pub caps_undecided : (progress : Progress) (cap : ℕ) (found : Found) (tree : List Entry) (best : Best) → found ≡ Undecided tree →
-    known_costs best ≡ known_costs progress.best →
-    unfinished_of best ≡ unfinished_after (known_costs progress.best) (unfinished_of progress.best) (record { cap = cap; tree = tree }) →
-    caps_of (record progress { most = cap; best = best }) ≡ after_cap (caps_of progress) cap found
-caps_undecided progress cap found tree best found_is costs_are tree_is =
-    both ∙ ap (λ (f : Found). after_cap (caps_of progress) cap f) (sym found_is)
+pub caps_undecided : (so_far : SoFar) (cap : ℕ) (found : Found) (tree : List Entry) (best : Best) → found ≡ Undecided tree →
+    known_costs best ≡ known_costs so_far.best →
+    undecided_of best ≡ undecided_after (known_costs so_far.best) (undecided_of so_far.best) (record { cap = cap; tree = tree }) →
+    caps_of (record so_far { most = cap; best = best }) ≡ after_cap (caps_of so_far) cap found
+caps_undecided so_far cap found tree best found_is costs_are tree_is =
+    both ∙ ap (λ (f : Found). after_cap (caps_of so_far) cap f) (sym found_is)
   where
-    both : caps_of (record progress { most = cap; best = best }) ≡ after_cap (caps_of progress) cap (Undecided tree)
-    both = λ i. record { least = progress.least; most = cap; costs = costs_are i; refuted = progress.kept; unfinished = tree_is i }
+    both : caps_of (record so_far { most = cap; best = best }) ≡ after_cap (caps_of so_far) cap (Undecided tree)
+    both = λ i. record { least = so_far.least; most = cap; costs = costs_are i; refuted = so_far.kept; undecided = tree_is i }
 
 -- The greatest bound.
 
@@ -102,18 +102,18 @@ settled_undecided p cap pool found tree s ds a cap_is found_is s_is are = (
 
 -- the costs as they are printed, and the trees with the new numbers of the rows
 pub told_found : (p : DesignProblem) (found : Option (List ℕ)) (kept lent undecided : Option CapTree) (old : List Row) (a : AnswerParts) → lent ≡ kept →
-    ArePrinted old lent undecided a.rows a.proof a.unfinished → ArePrintedIfAny p found a.costs → TellsFound p found kept undecided a
+    ArePrinted old lent undecided a.rows a.proof a.undecided → ArePrintedIfAny p found a.costs → TellsFound p found kept undecided a
 told_found p found kept lent undecided old a same printed costs = record {
   costs = costs;
   number = new_number (named_in lent undecided);
   proof = subst (λ (t : Option CapTree). HasNumbers (new_number (named_in lent undecided)) t a.proof) same printed.proof_is;
-  unfinished = printed.unfinished_is;
+  undecided = printed.undecided_is;
 }
 
 -- what the best so far is told to be
 pub told_best : (p : DesignProblem) (kept : Option CapTree) (best known : Best) (a : AnswerParts) → best ≡ known →
-    TellsFound p (known_costs known) kept (unfinished_of known) a → TellsFound p (known_costs best) kept (unfinished_of best) a
-told_best p kept best known a is tells = subst (λ (b : Best). TellsFound p (known_costs b) kept (unfinished_of b) a) (sym is) tells
+    TellsFound p (known_costs known) kept (undecided_of known) a → TellsFound p (known_costs best) kept (undecided_of best) a
+told_best p kept best known a is tells = subst (λ (b : Best). TellsFound p (known_costs b) kept (undecided_of b) a) (sym is) tells
 
 -- the searches at these caps are searches
 pub called_at_caps : {A : Type 0} (IsItself : A → A → Type 0) (state : A → List ℕ) (would : A → List ℕ → List Candidate → ℕ)

@@ -20,9 +20,9 @@ ProofIsPrinted p top nodes rows None = Unit {0}
 ProofIsPrinted p top nodes rows (Some proof) = IsPrintedTree p top nodes rows proof
 
 -- where the verdict is undecided, the tree that used up the budget stands at the verdict's cap
-abbrev pub UnfinishedAt : DesignProblem → ℕ → ℕ → List Row → ℕ → Option CapTree → Type 0
-UnfinishedAt p top nodes rows cap None = ⊥
-UnfinishedAt p top nodes rows cap (Some t) = (t.cap ≡ cap) × IsUndecidedTree p top nodes rows t
+abbrev pub UndecidedAt : DesignProblem → ℕ → ℕ → List Row → ℕ → Option CapTree → Type 0
+UndecidedAt p top nodes rows cap None = ⊥
+UndecidedAt p top nodes rows cap (Some t) = (t.cap ≡ cap) × IsUndecidedTree p top nodes rows t
 
 -- a proof that stands in an undecided answer: a closed sound tree at a cap below that of the verdict
 abbrev pub ProofIsBelow : DesignProblem → List Row → ℕ → Option CapTree → Type 0
@@ -40,7 +40,7 @@ pub record IsUndecided (p : DesignProblem) (top nodes cap : ℕ) (a : AnswerPart
   pub rows : All (IsRow p) a.rows
   pub no_floor : a.floor ≡ Absent
   pub no_higher : All (λ low. low ≤ cap) p.low
-  pub unfinished : UnfinishedAt p top nodes a.rows cap a.unfinished
+  pub undecided : UndecidedAt p top nodes a.rows cap a.undecided
   pub proof : ProofIsBelow p a.rows cap a.proof
   pub costs : CostsAreAbove p cap a.costs
 
@@ -52,11 +52,11 @@ VerdictHolds p top nodes a (Undecided cap) = IsUndecided p top nodes cap a
 
 -- the rows of an answer, and the entries of both its trees, are a sheet
 abbrev pub IsAnswerSheet : DesignProblem → List Row → Option CapTree → Option CapTree → Type 0
-IsAnswerSheet p rows proof unfinished = IsSheet (IsRow p) Differ 0 rows (entries_in proof ++ entries_in unfinished)
+IsAnswerSheet p rows proof undecided = IsSheet (IsRow p) Differ 0 rows (entries_in proof ++ entries_in undecided)
 
--- an answer to a problem: it is valid, or the budget was used up; a proof in it is an earnest tree, and just the rows that
--- its trees name are printed
+-- an answer to a problem: it is valid, or the budget was used up; a proof in it is an earnest tree, and just the rows
+-- that its trees name are printed
 pub record IsDesignAnswer (p : DesignProblem) (top nodes : ℕ) (a : AnswerParts) : Type 0 where
   pub holds : VerdictHolds p top nodes a a.verdict
   pub proof : ProofIsPrinted p top nodes a.rows a.proof
-  pub sheet : IsAnswerSheet p a.rows a.proof a.unfinished
+  pub sheet : IsAnswerSheet p a.rows a.proof a.undecided

@@ -7,12 +7,13 @@ use Rattle.design_problem.specs.Rows.{IsFit, greatest_cost}
 use Rattle.design_problem.specs.Trees.{IsClosed, entry_count}
 use Rattle.design_problem.specs.Answers.{AnswerParts, greatest_bound}
 use Rattle.cut_advisors.specs.declared.advisor.Advisor.{Ghosts}
+use Rattle.form_search.specs.AdvisorsAsked.{by_rules}
 use Rattle.cost_branching.specs.Pools.{Pooled}
 use Rattle.cost_branching.specs.Decisions.{IsTreeAt}
-use Rattle.least_bound.specs.declared.progress.Best.{Best}
-use Rattle.least_bound.specs.declared.progress.Best.TheVariants.{NoCosts, Costs, Between}
-use Rattle.least_bound.specs.declared.progress.Progress.{Progress}
-use Rattle.least_bound.specs.Asking.{AreAskedAtCaps, AreCapsInOrder, CapDecision, CapsSoFar}
+use Rattle.least_bound.specs.declared.so_far.Best.{Best}
+use Rattle.least_bound.specs.declared.so_far.Best.TheVariants.{NoCosts, Costs, Between}
+use Rattle.least_bound.specs.declared.so_far.SoFar.{SoFar}
+use Rattle.least_bound.specs.AdvisorsAsked.{AreAskedAtCaps, AreCapsInOrder, CapDecision, CapsSoFar}
 
 -- a closed tree at its cap, of at most N entries
 pub record IsRefuted (p : DesignProblem) (top nodes : ℕ) (pool : Pooled) (t : CapTree) : Type 0 where
@@ -48,13 +49,13 @@ BestHolds p top nodes pool most (Costs w) = IsFit p w × (greatest_cost w ≡ mo
 BestHolds p top nodes pool most (Between w t) = IsFit p w × (most < greatest_cost w) × (t.cap ≡ most) × IsUndecidedAt p top nodes pool t
 
 -- fit costs have a greatest cost from `least` on, and `most` is the least cap at which costs or an undecided tree stand
-pub record IsProgress (p : DesignProblem) (top nodes : ℕ) (pool : Pooled) (progress : Progress) : Type 0 where
-  pub floor : progress.floor ≡ greatest_cost p.low
-  pub from_floor : progress.floor ≤ progress.least
-  pub ordered : progress.least ≤ progress.most
-  pub none_lower : (w : List ℕ) → IsFit p w → progress.least ≤ greatest_cost w
-  pub kept : IsKeptAt p top nodes pool progress.least progress.kept
-  pub best : BestHolds p top nodes pool progress.most progress.best
+pub record IsBoundSoFar (p : DesignProblem) (top nodes : ℕ) (pool : Pooled) (so_far : SoFar) : Type 0 where
+  pub lowest_cap : so_far.lowest_cap ≡ greatest_cost p.low
+  pub from_lowest_cap : so_far.lowest_cap ≤ so_far.least
+  pub ordered : so_far.least ≤ so_far.most
+  pub none_lower : (w : List ℕ) → IsFit p w → so_far.least ≤ greatest_cost w
+  pub kept : IsKeptAt p top nodes pool so_far.least so_far.kept
+  pub best : BestHolds p top nodes pool so_far.most so_far.best
 
 -- the costs of the best so far, if there are any
 abbrev pub known_costs : Best → Option (List ℕ)
@@ -62,31 +63,31 @@ known_costs (NoCosts t) = None
 known_costs (Costs w) = Some w
 known_costs (Between w t) = Some w
 
--- the unfinished tree of the best so far, if there is one
-abbrev pub unfinished_of : Best → Option CapTree
-unfinished_of (NoCosts t) = Some t
-unfinished_of (Costs w) = None
-unfinished_of (Between w t) = Some t
+-- the undecided tree of the best so far, if there is one
+abbrev pub undecided_of : Best → Option CapTree
+undecided_of (NoCosts t) = Some t
+undecided_of (Costs w) = None
+undecided_of (Between w t) = Some t
 
 -- what the caps so far have come to, by what is known
-abbrev pub caps_of : Progress → CapsSoFar
-caps_of progress = record {
-  least = progress.least;
-  most = progress.most;
-  costs = known_costs progress.best;
-  refuted = progress.kept;
-  unfinished = unfinished_of progress.best;
+abbrev pub caps_of : SoFar → CapsSoFar
+caps_of so_far = record {
+  least = so_far.least;
+  most = so_far.most;
+  costs = known_costs so_far.best;
+  refuted = so_far.kept;
+  undecided = undecided_of so_far.best;
 }
 
--- behind what the caps so far have come to, a search called the advisors, by their rules, for each further one, until the answer
+-- behind what the caps so far have come to, a search called the advisors, by their rules, for each further one, until
+-- the answer
 abbrev pub AreAskedOn : {A V : Type 0} {X : V → Type 0} → ((rules : V) → Ghosts (X rules)) → (A → V) → (A → List ℕ) →
     DesignProblem → ℕ → ℕ → CapsSoFar → List A → List A → AnswerParts → Type 0
 AreAskedOn members rules state p top nodes s old new a = (ds : List CapDecision) × AreCapsInOrder p s ds a
-    × AreAskedAtCaps (λ b c. rules c ≡ rules b) state (λ b. (members (rules b)).would) (λ b. (members (rules b)).left)
-    (λ b. (members (rules b)).after) p top nodes ds old new
+    × by_rules AreAskedAtCaps members rules state p top nodes ds old new
 
--- no cap is left to decide; without costs the floor itself isn't one
+-- no cap is left to decide; without costs the lowest cap itself isn't one
 abbrev pub AreCapsDone : ℕ → ℕ → ℕ → Best → Type 0
-AreCapsDone floor least most (NoCosts t) = least < most → most ≤ floor + 1
-AreCapsDone floor least most (Costs w) = most ≤ least
-AreCapsDone floor least most (Between w t) = most ≤ least
+AreCapsDone lowest_cap least most (NoCosts t) = least < most → most ≤ lowest_cap + 1
+AreCapsDone lowest_cap least most (Costs w) = most ≤ least
+AreCapsDone lowest_cap least most (Between w t) = most ≤ least

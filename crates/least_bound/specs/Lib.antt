@@ -1,4 +1,4 @@
 pub mod Answered
-pub mod Asking
+pub mod AdvisorsAsked
 pub mod Caps
 pub mod Printing

@@ -6,15 +6,17 @@ ghost use Rattle.design_problem.specs.Answers.{greatest_bound};
 ghost use Rattle.printed_rows.specs.PrintedCosts.{ArePrintedCosts};
 ghost use Rattle.cost_branching.specs.Pools.{IsRowPool};
 ghost use Rattle.least_bound.specs.Answered.{IsDesignAnswer};
-ghost use Rattle.least_bound.specs.Asking.{TellsCaps, TellsFound};
-ghost use Rattle.least_bound.specs.Caps.{caps_of, IsKeptAt, IsTreeKeptBelow, IsProgress, AreCapsDone, IsRefuted, IsUndecidedAt, CostsFound};
+ghost use Rattle.least_bound.specs.AdvisorsAsked.{TellsCaps, TellsFound};
+ghost use Rattle.least_bound.specs.Caps.{caps_of, IsKeptAt, IsTreeKeptBelow, IsBoundSoFar, AreCapsDone, IsRefuted, IsUndecidedAt, CostsFound};
 ghost use Rattle.least_bound.specs.Printing.{ArePrintedIfAny, IsFloorFor};
 
 use crate::floor::floor_of;
-use crate::progress::{Best, Progress};
+use crate::so_far::{Best, SoFar};
 use cost_base::OutOfMemory;
-use cost_branching::{Pool, keeps_conditions};
-use design_problem::{Answer, CapTree, CostList, Costs, Floor, Problem, Tree, Verdict};
+use cost_branching::Pool;
+use design_problem::{
+    Answer, CapTree, CostList, Costs, Floor, Problem, Tree, Verdict, keeps_problem_on_graph,
+};
 use printed_rows::{printed_both, printed_costs};
 use std::alloc::Global;
 
@@ -35,7 +37,7 @@ pub(crate) fn impossible(
     ensures tells { IfOk result (TellsFound problem.now None
         (Some (record { cap = cap; tree = tree })) None) }
 {
-    keeps_conditions(problem);
+    keeps_problem_on_graph(problem);
     let alloc = pool.alloc();
     let proof = CapTree { cap, tree };
     let printed = printed_both(alloc, pool.into_rows(), Some(&proof), None)?;
@@ -45,7 +47,7 @@ pub(crate) fn impossible(
         floor: Floor::Absent,
         rows: printed.rows,
         proof: printed.proof,
-        unfinished: printed.unfinished,
+        undecided: printed.undecided,
     })
 }
 
@@ -75,7 +77,7 @@ fn optimal(
         IfOk result (IsDesignAnswer problem.now top nodes) }
     ensures tells { IfOk result (TellsFound problem.now (Some costs.now) kept None) }
 {
-    keeps_conditions(problem);
+    keeps_problem_on_graph(problem);
     let alloc = pool.alloc();
     let floor = floor_without(problem, &kept);
     let printed = printed_both(alloc, pool.into_rows(), kept.as_ref(), None)?;
@@ -86,7 +88,7 @@ fn optimal(
         floor,
         rows: printed.rows,
         proof: printed.proof,
-        unfinished: printed.unfinished,
+        undecided: printed.undecided,
     })
 }
 
@@ -95,7 +97,7 @@ fn printed_fit(alloc: Global, problem: &Problem, costs: &CostList) -> Result<Cos
     requires { IsFit problem.now costs.now }
     ensures { IfOk result (ArePrintedCosts problem.now costs.now) }
 {
-    keeps_conditions(problem);
+    keeps_problem_on_graph(problem);
     printed_costs(alloc, problem, costs.as_slice())
 }
 
@@ -114,65 +116,65 @@ fn printed_if_any(
     }
 }
 
-/// The cap of a tree.
+/// The cap of a tree. For the prover: a call, so that the caller's goals have this part alone.
 fn cap_of(tree: &CapTree) -> u16
     ensures { result ≡ tree.now.cap }
 {
     tree.cap
 }
 
-/// That the budget was used up at the cap of the unfinished tree, with the best costs and the kept tree, where there
+/// That the budget was used up at the cap of the undecided tree, with the best costs and the kept tree, where there
 /// are such.
 fn undecided(
     problem: &Problem,
     pool: Pool,
     costs: Option<&CostList>,
     kept: Option<CapTree>,
-    unfinished: CapTree,
+    undecided: CapTree,
 ) -> Result<Answer, OutOfMemory>
-    // The unfinished tree stands at a cap from the greatest lower bound on: without costs at the
+    // The undecided tree stands at a cap from the greatest lower bound on: without costs at the
     // greatest bound, with costs below their greatest. The kept one is closed below that cap.
     requires pool { IsRowPool problem.now pool }
-    requires from_floor { greatest_cost problem.now.low ≤ unfinished.cap }
-    requires costs { CostsFound problem.now unfinished.cap (option_copied costs) }
+    requires from_lowest_cap { greatest_cost problem.now.low ≤ undecided.cap }
+    requires costs { CostsFound problem.now undecided.cap (option_copied costs) }
     requires trees { (top : ℕ) × (nodes : ℕ) × (nodes ≤ 10000000) ×
-        IsTreeKeptBelow problem.now top nodes pool unfinished.cap kept ×
-        IsUndecidedAt problem.now top nodes pool unfinished }
+        IsTreeKeptBelow problem.now top nodes pool undecided.cap kept ×
+        IsUndecidedAt problem.now top nodes pool undecided }
 
     // The answer is one of `design` within the limits of these trees, and tells what was found.
     ensures answered { (top nodes : ℕ) →
-        IsTreeKeptBelow problem.now top nodes pool unfinished.cap kept →
-        IsUndecidedAt problem.now top nodes pool unfinished →
+        IsTreeKeptBelow problem.now top nodes pool undecided.cap kept →
+        IsUndecidedAt problem.now top nodes pool undecided →
         IfOk result (IsDesignAnswer problem.now top nodes) }
     ensures tells { IfOk result (TellsFound problem.now (option_copied costs.entry) kept
-        (Some unfinished)) }
+        (Some undecided)) }
 {
-    keeps_conditions(problem);
+    keeps_problem_on_graph(problem);
     let alloc = pool.alloc();
-    let cap = cap_of(&unfinished);
-    let printed = printed_both(alloc, pool.into_rows(), kept.as_ref(), Some(&unfinished))?;
+    let cap = cap_of(&undecided);
+    let printed = printed_both(alloc, pool.into_rows(), kept.as_ref(), Some(&undecided))?;
     Ok(Answer {
         verdict: Verdict::Undecided(cap),
         costs: printed_if_any(alloc, problem, costs)?,
         floor: Floor::Absent,
         rows: printed.rows,
         proof: printed.proof,
-        unfinished: printed.unfinished,
+        undecided: printed.undecided,
     })
 }
 
-impl Progress {
+impl SoFar {
     /// The answer once no cap is left.
     pub(crate) fn answer(self, problem: &Problem, pool: Pool) -> Result<Answer, OutOfMemory>
         requires pool { IsRowPool problem.now pool }
-        requires ended { AreCapsDone self.floor self.least self.most self.best }
-        requires progress { (top : ℕ) × (nodes : ℕ) × (nodes ≤ 10000000) ×
-            IsProgress problem.now top nodes pool self }
-        ensures answered { (top nodes : ℕ) → IsProgress problem.now top nodes pool self →
+        requires ended { AreCapsDone self.lowest_cap self.least self.most self.best }
+        requires so_far { (top : ℕ) × (nodes : ℕ) × (nodes ≤ 10000000) ×
+            IsBoundSoFar problem.now top nodes pool self }
+        ensures answered { (top nodes : ℕ) → IsBoundSoFar problem.now top nodes pool self →
             IfOk result (IsDesignAnswer problem.now top nodes) }
         ensures tells { IfOk result (TellsCaps problem.now (caps_of self)) }
     {
-        let Progress { kept, best, .. } = self;
+        let SoFar { kept, best, .. } = self;
         match best {
             Best::NoCosts(tree) => undecided(problem, pool, None, kept, tree),
             Best::Costs(costs) => optimal(problem, pool, &costs, kept),

@@ -7,6 +7,6 @@
 mod answering;
 mod floor;
 mod least_cap;
-mod progress;
+mod so_far;
 
 pub use least_cap::least;

@@ -12,6 +12,6 @@ pub mod MarkLaws
 pub mod NamingLaws
 pub mod SeekLaws
 pub mod ShownLaws
-pub mod StandingLaws
-pub mod TurnLaws
+pub mod SoFarLaws
+pub mod RoundLaws
 pub mod Sufficient

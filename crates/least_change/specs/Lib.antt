@@ -4,6 +4,6 @@ pub mod Looking
 pub mod Changes
 pub mod Marks
 pub mod Others
-pub mod Standings
+pub mod SoFar
 pub mod Telling
 pub mod Laws

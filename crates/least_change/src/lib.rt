@@ -12,13 +12,12 @@ mod counting;
 mod finding;
 pub mod laws;
 mod looking;
-mod marks;
 mod naming;
 mod question;
+mod round;
 mod searching;
-mod standing;
+mod so_far;
 mod telling;
-mod turning;
 
 pub use change::{Change, Core, Cores, CoverTree, KeptTree};
 pub use core_covers::CoverEntry;

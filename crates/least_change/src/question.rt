@@ -1,10 +1,9 @@
 //! What is asked of the changes of present costs.
 ghost use Rattle.std.specs.Prelude.{◌≡◌};
-ghost use Rattle.cost_branching.specs.Rivals.{IsProblemOnGraph};
+ghost use Rattle.design_problem.specs.Problems.{IsProblemOnGraph};
 ghost use Rattle.least_change.specs.Present.{ArePresentCosts};
 
-use cost_branching::keeps_conditions;
-use design_problem::Problem;
+use design_problem::{Problem, keeps_problem_on_graph};
 use std::marker::Model;
 use wide_fraction::Limits;
 
@@ -60,7 +59,7 @@ impl<'a> Question<'a> {
         ensures problem { IsProblemOnGraph self.now.problem }
         ensures present { ArePresentCosts self.now.problem self.now.present }
     {
-        keeps_conditions(self.problem);
+        keeps_problem_on_graph(self.problem);
     }
 
     /// The problem.

@@ -2,7 +2,7 @@
 ghost use Rattle.std.specs.Prelude.{IfOk};
 ghost use Rattle.cost_branching.specs.Pools.{IsRowPool, MoreRows};
 ghost use Rattle.least_change.specs.Present.{AreKeepable};
-ghost use Rattle.least_change.specs.Standings.{IsFoundInBox};
+ghost use Rattle.least_change.specs.SoFar.{IsFoundInBox};
 
 use crate::boxes::kept_box;
 use crate::question::Question;

@@ -126,17 +126,17 @@ answered_within old pool point new grown asked met are within = by_answer asked 
         let none = none_more fs are.more (sym are.rows ∙ answer.1) in
         (record { leads = answer.0; within = within }, are.forms ∙ ap (λ (gs : List Form). pool ++ gs) none ∙ append-nil pool)
     by_answer Added answer =
-        let new_rival = answer.1 in
-        let here : Contains fs new_rival.form ⊎ Contains are.more new_rival.form =
-        Contains-append_cases fs are.more new_rival.form
-        (subst (λ (gs : List Form). Contains gs new_rival.form) are.rows new_rival.is_new) in (
+        let new_form = answer.1 in
+        let here : Contains fs new_form.form ⊎ Contains are.more new_form.form =
+        Contains-append_cases fs are.more new_form.form
+        (subst (λ (gs : List Form). Contains gs new_form.form) are.rows new_form.is_new) in (
           λ accepted. answer.0 accepted.leads,
           record {
-            form = new_rival.form;
-            is_new = subst (λ (gs : List Form). Contains gs new_rival.form) (sym are.forms)
-                (Contains-append_right pool are.more new_rival.form (the_second here new_rival.not_old));
-            not_old = not_in pool point new_rival.form met new_rival.negative;
-            negative = new_rival.negative;
+            form = new_form.form;
+            is_new = subst (λ (gs : List Form). Contains gs new_form.form) (sym are.forms)
+                (Contains-append_right pool are.more new_form.form (the_second here new_form.not_old));
+            not_old = not_in pool point new_form.form met new_form.negative;
+            negative = new_form.negative;
           },
         )
 

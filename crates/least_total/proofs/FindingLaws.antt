@@ -3,22 +3,21 @@ use Rattle.std.proofs.Common.{◌≡◌, ℕ, ◌<◌, ◌≤◌, sym, ◌∙◌
 use Rattle.std.specs.Prelude.{Some}
 use Rattle.design_problem.specs.declared.answer.Verdict.{Verdict}
 use Rattle.design_problem.specs.declared.answer.Verdict.TheVariants.{Optimal, Impossible, Undecided}
-use Rattle.design_problem.specs.Problems.{DesignProblem, IsProblem}
+use Rattle.design_problem.specs.Problems.{DesignProblem, IsProblem, IsProblemOnGraph}
 use Rattle.design_problem.specs.Rows.{AreBestCosts, greatest_cost}
 use Rattle.design_problem.specs.Answers.{AnswerParts}
 use Rattle.design_problem.specs.Text.{row_line}
 use Rattle.design_problem.proofs.ProblemTrees.{le_greatest}
-use Rattle.cost_branching.specs.Rivals.{IsProblemOnGraph}
 use Rattle.printed_rows.proofs.CostLaws.{greatest-le}
 use Rattle.least_total.specs.declared.finding.Total.TheVariants.{Least, Undecided as TotalUndecided}
-use Rattle.least_total.specs.declared.finding.TotalProof.{TotalProof}
-use Rattle.least_total.specs.declared.finding.TotalProof.TheVariants.{Tree}
+use Rattle.least_total.specs.declared.finding.TotalEvidence.{TotalEvidence}
+use Rattle.least_total.specs.declared.finding.TotalEvidence.TheVariants.{Tree}
 use Rattle.least_total.specs.declared.printing.PrintedTotal.{PrintedTotal}
 use Rattle.least_total.specs.declared.rounds.TotalTree.{TotalTree}
-use Rattle.least_total.specs.declared.standing.Standing.{Standing}
+use Rattle.least_total.specs.declared.so_far.SoFar.{SoFar}
 use Rattle.least_total.specs.Totals.{total}
 use Rattle.least_total.specs.Printing.{IsPrintedLast}
-use Rattle.least_total.specs.Rounds.{IsFitWithin, IsKeptBelowTotal, IsUndecidedWithin, IsStanding}
+use Rattle.least_total.specs.Rounds.{IsFitWithin, IsKeptBelowTotal, IsUndecidedWithin, IsTotalSoFar}
 use Rattle.printed_rows.specs.FittingTexts.{FitText}
 use Rattle.least_total.specs.Results.{CanPrintTotals, IsTotalAnswer, IsRecosted, IsUndecidedTotal, ShowsLeastTotal}
 use Rattle.least_total.proofs.LeastTotals.{best_within, kept_bounds}
@@ -71,8 +70,8 @@ begins p w seen nodes cap old kept best tells seen_is cap_is small budget =
     record { can = can_print p w nodes cap kept best same small budget; tells = tells ∙ ap Optimal (sym same) }
 
 -- where no round is left
-pub least_answered : (p : DesignProblem) (top nodes cap : ℕ) (old answer : AnswerParts) (s : Standing) (sum : ℕ)
-    (proof : TotalProof) → IsProblem p → old.verdict ≡ Optimal cap → IsStanding p top nodes cap s → s.total ≤ s.least →
+pub least_answered : (p : DesignProblem) (top nodes cap : ℕ) (old answer : AnswerParts) (s : SoFar) (sum : ℕ)
+    (proof : TotalEvidence) → IsProblem p → old.verdict ≡ Optimal cap → IsTotalSoFar p top nodes cap s → s.total ≤ s.least →
     IsRecosted p old answer s.costs → sum ≡ s.total → ShowsLeastTotal p top nodes cap s.least proof →
     IsTotalAnswer p top nodes old (Least answer sum proof)
 least_answered p top nodes cap old answer s sum proof problem is holds ended other sum_is shows =
@@ -93,9 +92,9 @@ least_answered p top nodes cap old answer s sum proof problem is holds ended oth
     )
 
 -- where a round has used the budget up
-pub total_undecided : (p : DesignProblem) (top nodes cap : ℕ) (old answer : AnswerParts) (s : Standing) (sum most : ℕ)
+pub total_undecided : (p : DesignProblem) (top nodes cap : ℕ) (old answer : AnswerParts) (s : SoFar) (sum most : ℕ)
     (t : TotalTree) (printed : PrintedTotal) → CanPrintTotals p nodes cap → old.verdict ≡ Optimal cap →
-    IsStanding p top nodes cap s → s.least ≤ most → most < s.total → IsUndecidedWithin p top nodes cap most t →
+    IsTotalSoFar p top nodes cap s → s.least ≤ most → most < s.total → IsUndecidedWithin p top nodes cap most t →
     IsRecosted p old answer s.costs → sum ≡ s.total → IsPrintedLast t printed →
     IsTotalAnswer p top nodes old (TotalUndecided answer sum most printed.rows printed.tree)
 total_undecided p top nodes cap old answer s sum most t printed can is holds above below used_up other sum_is last =

@@ -1,4 +1,5 @@
--- The parts of a Refute with those of one form behind the others: they refute what they refuted, and rise by their new numbers.
+-- The parts of a Refute with those of one form behind the others: they refute what they refuted, and rise by their new
+-- numbers.
 use Rattle.std.proofs.Common.{◌≡◌, ◌≢◌, ℕ, suc, ◌+◌, ◌-◌, ◌<◌, ◌≤◌, refl, sym, ◌∙◌, ap, subst, List, [], ◌∷◌, ◌++◌, map, length, length-append, append-nil, arith, Bool, true, false, not, cond, inl, inr, eqb}
 use Rattle.std.specs.Prelude.{ℤ, pos, ◌+ℤ◌, ◌*ℤ◌, ◌<ℤ◌, ◌==◌, ◌⊎◌, All, AllPairs, sum_by, slice_index_or, if◌then◌else◌}
 use Rattle.std.proofs.lemmas.Int.{ints}
@@ -9,10 +10,10 @@ use Rattle.std.proofs.lemmas.List.Elements.{All-head, All-tail, All-filter, All-
 use Rattle.std.proofs.lemmas.List.Kept.{AllPairs-filter, AllPairs-cons}
 use Rattle.std.proofs.lemmas.List.Quantifiers.{all_pairs_push}
 use Rattle.std.proofs.lemmas.List.Sums.{sum_by-append, sum_by-cons}
-use Rattle.design_problem.specs.declared.form.CostBox.{CostBox}
+use Rattle.design_problem.specs.declared.boxes.CostBox.{CostBox}
 use Rattle.design_problem.specs.Forms.{Form, added, form_at, no_form, weighted}
 use Rattle.design_problem.specs.Boxes.{Refutes, greatest}
-use Rattle.design_problem.specs.Renumbering.{renumbered_part}
+use Rattle.design_problem.specs.Renumbering.{renumbered_multiplier}
 use Rattle.least_total.specs.Moving.{is_picked, moved_number, picked, put_last}
 
 -- Sums of forms.
@@ -208,10 +209,10 @@ pairs_tail x xs pairs i j d before j_in = pairs (suc i) (suc j) d (omega arith) 
 
 -- the others rise by their new numbers
 others_rise : (place others : ℕ) (parts : List (ℕ × ℕ)) → All (λ part. part.0 ≢ place) parts → AllPairs Rises parts →
-    AllPairs Rises (map (renumbered_part (moved_number place others)) parts)
+    AllPairs Rises (map (renumbered_multiplier (moved_number place others)) parts)
 others_rise place others [] other pairs = λ i j d before j_in. absurd (omega (arith, j_in))
 others_rise place others (part ∷ parts) other pairs =
-    let new : ℕ × ℕ → ℕ × ℕ = renumbered_part (moved_number place others) in
+    let new : ℕ × ℕ → ℕ × ℕ = renumbered_multiplier (moved_number place others) in
     let here = All-head (λ (q : ℕ × ℕ). q.0 ≢ place) part parts other in
     let rest = All-tail (λ (q : ℕ × ℕ). q.0 ≢ place) part parts other in
     let above = pairs_head part parts pairs in
@@ -234,12 +235,12 @@ own_is place parts k d k_in = eqb-true (slice_index_or (picked true place parts)
 -- with one own part, or none, all rise by their new numbers
 rise_with : (place others : ℕ) (first own : List (ℕ × ℕ)) → place ≤ others → All (λ part. part.0 ≢ place) first →
     All (λ part. part.0 ≤ others) first → AllPairs Rises first → All (λ part. part.0 ≡ place) own → AllPairs Rises own →
-    AllPairs Rises (map (renumbered_part (moved_number place others)) (first ++ own))
+    AllPairs Rises (map (renumbered_multiplier (moved_number place others)) (first ++ own))
 rise_with place others first [] within other known pairs own_are own_pairs =
-    subst (λ (ps : List (ℕ × ℕ)). AllPairs Rises (map (renumbered_part (moved_number place others)) ps))
+    subst (λ (ps : List (ℕ × ℕ)). AllPairs Rises (map (renumbered_multiplier (moved_number place others)) ps))
     (sym (append-nil first)) (others_rise place others first other pairs)
 rise_with place others first (part ∷ []) within other known pairs own_are own_pairs =
-    let new : ℕ × ℕ → ℕ × ℕ = renumbered_part (moved_number place others) in
+    let new : ℕ × ℕ → ℕ × ℕ = renumbered_multiplier (moved_number place others) in
     let own_here = All-head (λ (q : ℕ × ℕ). q.0 ≡ place) part [] own_are in
     let below : All (λ q. Rises q (new part)) (map new first) = All-map (λ q. Rises q (new part)) new first
     (λ k d k_in. (let low = number_low place others (slice_index_or first k d).0 (other k d k_in) within
@@ -255,7 +256,7 @@ rise_with place others first (part ∷ next ∷ own) within other known pairs ow
 -- the parts rise again
 pub rising_last : (place others : ℕ) (parts : List (ℕ × ℕ)) → place ≤ others → All (λ part. part.0 ≤ others) parts →
     AllPairs (λ a b. a.0 < b.0) parts →
-    AllPairs (λ a b. a.0 < b.0) (map (renumbered_part (moved_number place others)) (put_last place parts))
+    AllPairs (λ a b. a.0 < b.0) (map (renumbered_multiplier (moved_number place others)) (put_last place parts))
 rising_last place others parts within known rising =
     rise_with place others (picked false place parts) (picked true place parts) within (others_differ place parts)
     (All-filter (is_picked false place) (λ part. part.0 ≤ others) parts known)
@@ -264,14 +265,14 @@ rising_last place others parts within known rising =
 -- One part more.
 
 pub positive_last : (place others : ℕ) (parts : List (ℕ × ℕ)) → All (λ part. 0 < part.1) parts →
-    All (λ part. 0 < part.1) (map (renumbered_part (moved_number place others)) (put_last place parts))
+    All (λ part. 0 < part.1) (map (renumbered_multiplier (moved_number place others)) (put_last place parts))
 positive_last place others parts positive =
-    All-map (λ (part : ℕ × ℕ). 0 < part.1) (renumbered_part (moved_number place others)) (put_last place parts)
+    All-map (λ (part : ℕ × ℕ). 0 < part.1) (renumbered_multiplier (moved_number place others)) (put_last place parts)
     (all_last (λ (part : ℕ × ℕ). 0 < part.1) place parts positive)
 
 -- parts by their new numbers
 abbrev pub new_parts : ℕ → ℕ → List (ℕ × ℕ) → List (ℕ × ℕ)
-new_parts place others parts = map (renumbered_part (moved_number place others)) parts
+new_parts place others parts = map (renumbered_multiplier (moved_number place others)) parts
 
 -- pairs that were put one after another
 pub pairs_are : (place others : ℕ) (parts seen again first middle last : List (ℕ × ℕ)) → seen ≡ parts → again ≡ parts →
@@ -285,4 +286,4 @@ pairs_are place others parts seen again first middle last seen_is again_is none 
     last_is
     ∙ ap (λ (ps : List (ℕ × ℕ)). ps ++ new_parts place others (picked true place again)) others_are
     ∙ ap (λ (ps : List (ℕ × ℕ)). new_parts place others (picked false place parts) ++ new_parts place others (picked true place ps)) again_is
-    ∙ sym (map-append (renumbered_part (moved_number place others)) (picked false place parts) (picked true place parts))
+    ∙ sym (map-append (renumbered_multiplier (moved_number place others)) (picked false place parts) (picked true place parts))

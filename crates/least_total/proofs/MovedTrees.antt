@@ -8,16 +8,16 @@ use Rattle.std.proofs.lemmas.List.{length-map, map-append, get_or-map}
 use Rattle.std.proofs.lemmas.List.Elements.{All-map}
 use Rattle.cost_base.proofs.ListLemmas.{none_mapped}
 use Rattle.area_graph.specs.declared.Point.{Point}
-use Rattle.design_problem.specs.declared.form.CostBox.{CostBox}
+use Rattle.design_problem.specs.declared.boxes.CostBox.{CostBox}
 use Rattle.design_problem.specs.declared.tree.Entry.{Entry}
 use Rattle.design_problem.specs.declared.tree.Entry.TheVariants.{Tighten, Split, Halve, Refute, Undone}
 use Rattle.design_problem.specs.Forms.{Form, form_at, no_form}
 use Rattle.design_problem.specs.Trees.{IsClosed, SoundAt, AreSeveralTrees, entry_count, is_undone, subtree_count}
 use Rattle.design_problem.specs.Earnest.{OpenPlace, Earnest, EarnestAt, subplaces}
 use Rattle.design_problem.specs.OpenPlaces.{UndoneLast, undones}
-use Rattle.design_problem.specs.Renumbering.{IsRenumbering, renumbered, renumbered_member, renumbered_part}
+use Rattle.design_problem.specs.Renumbering.{IsRenumbering, renumbered, renumbered_member, renumbered_multiplier}
 use Rattle.design_problem.proofs.Renumbering.{renumbered_tree}
-use Rattle.form_search.specs.Finds.{IsSearchTree, IsShort}
+use Rattle.design_problem.specs.SearchTrees.{IsSearchTree, IsShort}
 use Rattle.printed_rows.specs.NamedRows.{NamesBelow}
 use Rattle.printed_rows.specs.NewNumbers.{KeepsOrder, number_given}
 use Rattle.printed_rows.proofs.NamedLaws.{entry_agrees}
@@ -221,7 +221,7 @@ moved_short place others n (Split var value) short = short
 moved_short place others n (Halve var value wide) short =
     ((short.0.0, short.0.1, λ none. short.0.2 (none_mapped (renumbered_member (moved_number place others)) wide.basis none)), tt)
 moved_short place others n (Refute parts) short =
-    let new : ℕ × ℕ → ℕ × ℕ = renumbered_part (moved_number place others) in (
+    let new : ℕ × ℕ → ℕ × ℕ = renumbered_multiplier (moved_number place others) in (
       (
         λ none. short.0.0 (none_last place parts (none_mapped new (put_last place parts) none)),
         All-map (λ (part : ℕ × ℕ). part.1 < 10 ^ 31) new (put_last place parts) (all_last (λ (part : ℕ × ℕ). part.1 < 10 ^ 31) place parts short.0.1),

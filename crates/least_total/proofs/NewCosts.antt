@@ -93,7 +93,7 @@ pub recosted_is : (p : DesignProblem) (a : AnswerParts) (k : ℕ) (w : List ℕ)
       floor = a.floor;
       rows = a.rows;
       proof = a.proof;
-      unfinished = a.unfinished;
+      undecided = a.undecided;
     }) w
 recosted_is p a k w new problem valid is fit printed =
     let gives = gives_best p a k problem valid is in
@@ -145,15 +145,15 @@ pub recosted_kept : (p : DesignProblem) (a : AnswerParts) (w : List ℕ) (new : 
       floor = a.floor;
       rows = a.rows;
       proof = a.proof;
-      unfinished = a.unfinished;
+      undecided = a.undecided;
     })
 recosted_kept p a w new kept printed = record {
   costs = costs_fit (Some new) (printed.named, printed.small);
   proof = kept.proof;
-  unfinished = kept.unfinished;
+  undecided = kept.undecided;
   lines =
       lines_between (codes "ospfcost answer 1" ∷ spaced (codes "verdict" ∷ verdict_words a.verdict) ∷ []) (costs_lines a.costs)
       (spaced (codes "floor" ∷ floor_word a.floor ∷ []) ∷ spaced (codes "rows" ∷ decimal (length a.rows) ∷ []) ∷ map row_line a.rows)
-      (tree_lines (codes "proof") a.proof) (tree_lines (codes "open") a.unfinished) (codes "wide none" ∷ codes "end" ∷ []) (costs_lines (Some new))
+      (tree_lines (codes "proof") a.proof) (tree_lines (codes "open") a.undecided) (codes "wide none" ∷ codes "end" ∷ []) (costs_lines (Some new))
       kept.lines (costs_short (Some new) (printed.named, printed.small));
 }

@@ -4,8 +4,9 @@ use Rattle.std.specs.Prelude.{◌⊎◌, All, AllPairs, Contains, Option, None, 
 use Rattle.std.proofs.lemmas.List.{length-map}
 use Rattle.std.proofs.lemmas.List.Elements.{All-nil, All-cons, All-append, All-head, All-map, All-tail, All-weaker}
 use Rattle.std.proofs.lemmas.List.Kept.{AllPairs-cons}
+use Rattle.cost_base.proofs.ListLemmas.{pairs_head, pairs_tail}
 use Rattle.area_graph.specs.declared.Point.{Point}
-use Rattle.design_problem.specs.declared.form.CostBox.{CostBox}
+use Rattle.design_problem.specs.declared.boxes.CostBox.{CostBox}
 use Rattle.design_problem.specs.declared.form.Row.{Row}
 use Rattle.design_problem.specs.declared.tree.Entry.{Entry}
 use Rattle.design_problem.specs.declared.tree.Entry.TheVariants.{Undone}
@@ -13,13 +14,12 @@ use Rattle.design_problem.specs.Problems.{DesignProblem}
 use Rattle.design_problem.specs.Forms.{Form, form_at}
 use Rattle.design_problem.specs.Boxes.{capped}
 use Rattle.design_problem.specs.Rows.{IsRow, box_of, form_of_row, forms_of_rows}
-use Rattle.design_problem.specs.Trees.{IsClosed, Sound, SoundAt, entry_count, subboxes}
+use Rattle.design_problem.specs.Trees.{IsClosed, entry_count}
 use Rattle.design_problem.specs.Text.{row_line}
 use Rattle.design_problem.specs.Earnest.{Earnest, OpenPlace}
 use Rattle.design_problem.specs.Renumbering.{IsRenumbering, renumbered}
-use Rattle.design_problem.proofs.OpenPlaces.{opens_ends, earnest_opens}
-use Rattle.design_problem.proofs.Renumbering.{forms_kept, opens_kept, renumbered_sound, renumbered_tree, same_entry, same_entries}
-use Rattle.form_search.specs.Finds.{IsSearchTree}
+use Rattle.design_problem.proofs.Renumbering.{renumbered_tree, same_entries, tree_more, sound_more}
+use Rattle.design_problem.specs.SearchTrees.{IsSearchTree}
 use Rattle.printed_rows.specs.NamedRows.{NamesBelow, is_row_named}
 use Rattle.printed_rows.specs.NewNumbers.{IsTreePrinted, kept_from, kept_rows, new_number}
 use Rattle.printed_rows.specs.PrintedTrees.{IsPrintedOver}
@@ -30,7 +30,7 @@ use Rattle.printed_rows.proofs.CapBoxes.{cost_bounds}
 use Rattle.printed_rows.proofs.NamedLaws.{entries_agree, named_weaker}
 use Rattle.printed_rows.proofs.RenumberedTrees.{count_kept, earnest_names, undone_kept}
 use Rattle.printed_rows.proofs.RowLines.{rows_short}
-use Rattle.printed_rows.proofs.SheetLaws.{copy_sheet, pairs_first, pairs_left}
+use Rattle.printed_rows.proofs.SheetLaws.{copy_sheet}
 use Rattle.printed_rows.proofs.TreeCopies.{IsCopy, copy_closed, copy_names, copy_printable, copy_printed, printed_copy, search_names}
 use Rattle.least_total.specs.declared.printing.PoolForm.{PoolForm}
 use Rattle.least_total.specs.declared.printing.PoolForm.TheVariants.{OfRow, OfTotal}
@@ -46,24 +46,11 @@ use Rattle.least_total.proofs.MovedTrees.{moved_closed, moved_count, moved_tree,
 
 -- A search's tree, once the form of the total has been moved.
 
--- more forms leave a search's tree as it is
-search_more : (accepts : Point → Type 0) (top : ℕ) (forms more : List Form) (box : CostBox) (tree : List Entry) →
-    IsSearchTree accepts top forms box tree → IsSearchTree accepts top (forms ++ more) box tree
-search_more accepts top forms more box tree holds =
-    let places : List OpenPlace = record { box = box; since = [] } ∷ [] in
-    record {
-      earnest = opens_ends accepts top (forms ++ more) places tree
-          (opens_kept accepts top forms more places tree []
-          (earnest_opens accepts top forms places tree holds.earnest));
-      last = holds.last;
-      short = holds.short;
-    }
-
 search_moved : (accepts : Point → Type 0) (top : ℕ) (fs : List Form) (f : Form) (before : Option ℕ) (others : ℕ)
     (box : CostBox) (tree : List Entry) → others ≡ length fs → IsPlaceIn others before →
     IsSearchTree accepts top (with_form before f fs) box tree →
     IsSearchTree accepts top (fs ++ f ∷ []) box (moved_from before others tree)
-search_moved accepts top fs f None others box tree count place holds = search_more accepts top fs (f ∷ []) box tree holds
+search_moved accepts top fs f None others box tree count place holds = tree_more accepts top fs (f ∷ []) box tree holds
 search_moved accepts top fs f (Some k) others box tree count place holds =
     subst (λ (n : ℕ). IsSearchTree accepts top (fs ++ f ∷ []) box (moved_from (Some k) n tree)) (sym count)
     (moved_tree accepts top fs f k box tree (omega arith) holds)
@@ -166,15 +153,6 @@ shifted_keeps fs more f = record {
   same = λ row below. shifted_same fs more f row;
 }
 
-sound_more : (forms more : List Form) (boxes : List CostBox) (entries : List Entry) → Sound forms boxes entries → Sound (forms ++ more) boxes entries
-sound_more forms more [] [] sound = tt
-sound_more forms more (box ∷ boxes) [] sound = absurd sound
-sound_more forms more [] (e ∷ entries) sound = absurd sound
-sound_more forms more (box ∷ boxes) (e ∷ entries) sound = (
-  subst (SoundAt (forms ++ more) box) (same_entry e) (renumbered_sound (λ row. row) forms (forms ++ more) box e (forms_kept forms more) sound.0),
-  sound_more forms more (subboxes box e ++ boxes) entries sound.1,
-)
-
 -- a printed tree is one with a form more behind its own
 pub over_more : (accepts : Point → Type 0) (IsTrueForm : Form → Type 0) (top nodes : ℕ) (forms : List Form) (f : Form)
     (box : CostBox) (tree : List Entry) → All (NamesBelow (length forms)) tree →
@@ -269,9 +247,9 @@ forms_apart [] once = AllPairs-cons AreApart OfTotal [] (All-nil (AreApart OfTot
 forms_apart (row ∷ rows) once =
     let Apart : PoolForm → Type 0 = AreApart (OfRow row) in
     let others : All Apart (with_total_last rows) =
-    All-append Apart (map OfRow rows) (OfTotal ∷ []) (All-map Apart OfRow rows (pairs_first Differ row rows once))
+    All-append Apart (map OfRow rows) (OfTotal ∷ []) (All-map Apart OfRow rows (pairs_head Differ row rows once))
     (All-cons Apart OfTotal [] tt (All-nil Apart)) in
-    AllPairs-cons AreApart (OfRow row) (with_total_last rows) others (forms_apart rows (pairs_left Differ row rows once))
+    AllPairs-cons AreApart (OfRow row) (with_total_last rows) others (forms_apart rows (pairs_tail Differ row rows once))
 
 apart_rows : (row : Row) (forms : List PoolForm) → All (AreApart (OfRow row)) forms → All (Differ row) (rows_in forms)
 apart_rows row [] all = All-nil (Differ row)
@@ -283,9 +261,9 @@ apart_rows row (OfTotal ∷ forms) all = apart_rows row forms (All-tail (AreApar
 rows_apart : (forms : List PoolForm) → AllPairs AreApart forms → AllPairs Differ (rows_in forms)
 rows_apart [] once = λ i j d before j_in. absurd (omega (arith, j_in))
 rows_apart (OfRow row ∷ forms) once =
-    AllPairs-cons Differ row (rows_in forms) (apart_rows row forms (pairs_first AreApart (OfRow row) forms once))
-    (rows_apart forms (pairs_left AreApart (OfRow row) forms once))
-rows_apart (OfTotal ∷ forms) once = rows_apart forms (pairs_left AreApart OfTotal forms once)
+    AllPairs-cons Differ row (rows_in forms) (apart_rows row forms (pairs_head AreApart (OfRow row) forms once))
+    (rows_apart forms (pairs_tail AreApart (OfRow row) forms once))
+rows_apart (OfTotal ∷ forms) once = rows_apart forms (pairs_tail AreApart OfTotal forms once)
 
 rows_fewer : (forms : List PoolForm) → length (rows_in forms) ≤ length forms
 rows_fewer [] = omega arith

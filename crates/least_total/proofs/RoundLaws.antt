@@ -3,7 +3,7 @@ use Rattle.std.proofs.Common.{◌≡◌, ℕ, ◌^◌, ◌<◌, ◌≤◌, refl,
 use Rattle.std.specs.Prelude.{All, AllPairs, Option, None}
 use Rattle.std.proofs.lemmas.List.Elements.{All-nil, All-from_get_or}
 use Rattle.area_graph.specs.Costs.{at_costs}
-use Rattle.design_problem.specs.declared.form.CostBox.{CostBox}
+use Rattle.design_problem.specs.declared.boxes.CostBox.{CostBox}
 use Rattle.design_problem.specs.declared.form.Row.{Row}
 use Rattle.design_problem.specs.Problems.{DesignProblem, IsProblem}
 use Rattle.design_problem.specs.Forms.{Form, form_at}
@@ -17,10 +17,10 @@ use Rattle.cost_branching.specs.Pools.{Differ, IsRowPool}
 use Rattle.cost_branching.specs.Decisions.{IsDecided}
 use Rattle.cost_branching.proofs.Caps.{decided}
 use Rattle.least_total.specs.declared.rounds.Sought.{Sought}
-use Rattle.least_total.specs.declared.standing.Standing.{Standing}
+use Rattle.least_total.specs.declared.so_far.SoFar.{SoFar}
 use Rattle.least_total.specs.Totals.{LeadsWithin, form_of_total, total}
-use Rattle.least_total.specs.Bounded.{IsPoolWithTotal, BoundedRows, IsPlaceIn, candidates_within, forms_with_total}
-use Rattle.least_total.specs.Rounds.{IsFitWithin, IsTotalSought, IsStanding}
+use Rattle.least_total.specs.Bounded.{IsPoolWithTotal, BoundedRows, IsPlaceIn, possible_forms_within, forms_with_total}
+use Rattle.least_total.specs.Rounds.{IsFitWithin, IsTotalSought, IsTotalSoFar}
 use Rattle.least_total.proofs.LeastTotals.{from_lows, kept_bounds, total_small}
 
 -- costs that a search accepts are fit, and have such a total
@@ -42,12 +42,12 @@ same_forms p q most bound rows others before place same_problem same_form same_r
 
 pub sought_is : (p : DesignProblem) (top nodes most : ℕ) (box : CostBox) (source : BoundedRows) (pool : List Form)
     (sought : Sought) → source.known.problem ≡ p →
-    candidates_within source.known.problem source.most ≡ candidates_within p most → IsPoolWithTotal source pool →
+    possible_forms_within source.known.problem source.most ≡ possible_forms_within p most → IsPoolWithTotal source pool →
     IsSearchResult (LeadsWithin p most) top nodes pool box sought.found → sought.rows.items ≡ source.known.rows →
     sought.before ≡ source.before → IsTotalSought p top nodes most box sought
-sought_is p top nodes most box source pool sought same_problem same_candidates in_step found same_rows same_place =
+sought_is p top nodes most box source pool sought same_problem same_possible_forms in_step found same_rows same_place =
     let q = source.known.problem in
-    let same_form : form_of_total q source.most ≡ form_of_total p most = ap (λ (fs : List Form). form_at fs 0) same_candidates in
+    let same_form : form_of_total q source.most ≡ form_of_total p most = ap (λ (fs : List Form). form_at fs 0) same_possible_forms in
     record {
       placed = record {
         are_rows = subst (λ (r : DesignProblem). All (IsRow r) sought.rows.items) same_problem (subst (All (IsRow q)) (sym same_rows) in_step.are_rows.0);
@@ -63,10 +63,10 @@ sought_is p top nodes most box source pool sought same_problem same_candidates i
 
 -- What is known of the least total.
 
-pub standing_starts : (p : DesignProblem) (top nodes cap : ℕ) (w : List ℕ) (sum least : ℕ) → IsFitWithin p cap w →
+pub so_far_starts : (p : DesignProblem) (top nodes cap : ℕ) (w : List ℕ) (sum least : ℕ) → IsFitWithin p cap w →
     sum ≡ total w → sum < 2 ^ 26 → least ≡ total p.low →
-    IsStanding p top nodes cap (record { costs = w; total = sum; least = least; kept = None })
-standing_starts p top nodes cap w sum least fit sum_is small least_is =
+    IsTotalSoFar p top nodes cap (record { costs = w; total = sum; least = least; kept = None })
+so_far_starts p top nodes cap w sum least fit sum_is small least_is =
     let low = from_lows p w fit.0 in
     record {
       fit = fit;
@@ -77,10 +77,10 @@ standing_starts p top nodes cap w sum least fit sum_is small least_is =
       kept = least_is;
     }
 
-pub standing_costs : (p : DesignProblem) (top nodes cap : ℕ) (s : Standing) (w : List ℕ) (sum : ℕ) → IsProblem p →
-    IsStanding p top nodes cap s → IsFitWithin p cap w → sum ≡ total w → sum < 2 ^ 26 →
-    IsStanding p top nodes cap (record { costs = w; total = sum; least = s.least; kept = s.kept })
-standing_costs p top nodes cap s w sum problem holds fit sum_is small =
+pub so_far_costs : (p : DesignProblem) (top nodes cap : ℕ) (s : SoFar) (w : List ℕ) (sum : ℕ) → IsProblem p →
+    IsTotalSoFar p top nodes cap s → IsFitWithin p cap w → sum ≡ total w → sum < 2 ^ 26 →
+    IsTotalSoFar p top nodes cap (record { costs = w; total = sum; least = s.least; kept = s.kept })
+so_far_costs p top nodes cap s w sum problem holds fit sum_is small =
     let above = kept_bounds p top nodes cap s.least s.kept problem holds.kept w fit in
     record {
       fit = fit;

@@ -2,15 +2,15 @@
 use Rattle.std.specs.Prelude.{◌≡◌, ℕ, ◌^◌, ◌<◌, ◌≤◌, ◌⊎◌, List, ◌∷◌, ◌++◌, take, drop, length, Option, None, Some}
 use Rattle.design_problem.specs.Forms.{Form}
 use Rattle.design_problem.specs.declared.form.Row.{Row}
-use Rattle.design_problem.specs.Problems.{DesignProblem}
+use Rattle.design_problem.specs.Problems.{DesignProblem, IsProblemOnGraph}
 use Rattle.design_problem.specs.Rows.{forms_of_rows}
-use Rattle.cost_branching.specs.Candidates.{candidate_forms}
+use Rattle.cost_branching.specs.PossibleForms.{possible_forms_of_problem}
 use Rattle.cost_branching.specs.Pools.{ArePoolRows}
-use Rattle.cost_branching.specs.Rivals.{IsProblemOnGraph, IsTrueRowForm, KnownRows}
+use Rattle.cost_branching.specs.Rivals.{IsTrueRowForm, KnownRows}
 use Rattle.least_total.specs.Totals.{form_of_total}
 
--- the rows that are known of a problem, the bound of the total, and how many rows came before the form of the total, where
--- that form has come
+-- the rows that are known of a problem, the bound of the total, and how many rows came before the form of the total,
+-- where that form has come
 pub record BoundedRows : Type 0 where
   pub known : KnownRows
   pub most : ℕ
@@ -22,7 +22,8 @@ pub record IsTrueTotal (p : DesignProblem) (most : ℕ) (form : Form) : Type 0 w
   pub small : most < 2 ^ 26
   pub same : form ≡ form_of_total p most
 
--- a true form: that of a row of the problem, or the one of the total
+-- a form that a search below a bound of the total may take: that of a row of the problem, or the total's form in
+-- numbers that fit
 abbrev pub IsTrueWithin : DesignProblem → ℕ → Form → Type 0
 IsTrueWithin p most form = IsTrueRowForm p form ⊎ IsTrueTotal p most form
 
@@ -47,5 +48,5 @@ pub record IsPoolWithTotal (s : BoundedRows) (pool : List Form) : Type 0 where
   pub forms : pool ≡ forms_with_total s.known.problem s.most s.known.rows s.before
 
 -- the form of the total, and those that rows can have
-abbrev pub candidates_within : DesignProblem → ℕ → List Form
-candidates_within p most = form_of_total p most ∷ candidate_forms p
+abbrev pub possible_forms_within : DesignProblem → ℕ → List Form
+possible_forms_within p most = form_of_total p most ∷ possible_forms_of_problem p

@@ -1,5 +1,5 @@
--- Laws of the source of rivals with a bound of the total: its true forms hold at accepted points, they stand in one list, and
--- what is accepted at multiples of costs is accepted at the costs.
+-- Laws of the source of rivals with a bound of the total: its true forms hold at accepted points, they stand in one
+-- list, and what is accepted at multiples of costs is accepted at the costs.
 use Rattle.std.proofs.Common.{◌≡◌, ℕ, zero, suc, ◌+◌, ◌*◌, ◌^◌, ◌<◌, ◌≤◌, refl, sym, ◌∙◌, subst, ap, inl, inr, List, [], ◌∷◌, map, length, fold, arith}
 use Rattle.std.specs.Prelude.{ℤ, pos, negsuc, ◌+ℤ◌, ◌*ℤ◌, ◌≤ℤ◌, nat_abs, All, Contains, replicate}
 use Rattle.std.specs.List.{sum}
@@ -12,10 +12,10 @@ use Rattle.design_problem.specs.Forms.{Form, dot, value_at}
 use Rattle.design_problem.specs.Problems.{DesignProblem}
 use Rattle.design_problem.proofs.AtCosts.{dot_scaled}
 use Rattle.form_search.specs.Sources.{IsTrueForm, scaled}
-use Rattle.cost_branching.specs.Candidates.{candidate_forms}
+use Rattle.cost_branching.specs.PossibleForms.{possible_forms_of_problem}
 use Rattle.cost_branching.specs.SourceLaws as rivals
 use Rattle.least_total.specs.Totals.{LeadsWithin, form_of_total}
-use Rattle.least_total.specs.Bounded.{IsTrueTotal, IsTrueWithin, candidates_within}
+use Rattle.least_total.specs.Bounded.{IsTrueTotal, IsTrueWithin, possible_forms_within}
 
 -- a sum from a start on is the start and the sum from 0
 sum_from_start : (start : ℕ) (xs : List ℕ) → fold ◌+◌ start xs ≡ start + fold ◌+◌ 0 xs
@@ -88,11 +88,12 @@ total_forms_hold p most form (inl of_row) =
     }
 total_forms_hold p most form (inr of_total) = total_holds p most form of_total
 
--- Every true form stands in the list of the candidates.
+-- Every true form stands in the list of the possible forms.
 
--- each true form is among the candidates
-pub total_forms_listed : (p : DesignProblem) (most : ℕ) (form : Form) → IsTrueWithin p most form → Contains (candidates_within p most) form
-total_forms_listed p most form (inl of_row) = Contains-append_right (form_of_total p most ∷ []) (candidate_forms p) form (rivals.rival_forms_listed p form of_row)
+-- each true form is among the possible forms
+pub total_forms_listed : (p : DesignProblem) (most : ℕ) (form : Form) → IsTrueWithin p most form → Contains (possible_forms_within p most) form
+total_forms_listed p most form (inl of_row) = Contains-append_right (form_of_total p most ∷ []) (possible_forms_of_problem p) form
+    (rivals.rival_forms_listed p form of_row)
 total_forms_listed p most form (inr of_total) = (0, omega arith, sym of_total.same)
 
 -- What is accepted at multiples of costs is accepted at the costs.
@@ -115,7 +116,8 @@ total_value_scaled f w s =
     ∙ ap (λ (z : ℤ). z *ℤ pos s) (ring (f.constant ∷ dot f.coefficients w ∷ []) (var 0 ⊕ var 1) (var 0 ⊗ num (pos 1) ⊕ var 1) refl)
 
 -- what is accepted at multiples of costs is accepted at the costs
-pub total_scale_is_free : (p : DesignProblem) (most : ℕ) (w : List ℕ) (scale : ℕ) → 0 < scale → LeadsWithin p most (scaled w scale) → LeadsWithin p most (at_costs w)
+pub total_scale_is_free : (p : DesignProblem) (most : ℕ) (w : List ℕ) (scale : ℕ) → 0 < scale → LeadsWithin p most (scaled w scale) →
+    LeadsWithin p most (at_costs w)
 total_scale_is_free p most w scale some within = record {
   leads = rivals.rival_scale_is_free p w scale some within.leads;
   within =

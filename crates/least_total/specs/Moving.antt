@@ -36,6 +36,7 @@ with_last place (Halve var value wide) = Halve var value wide
 with_last place (Refute parts) = Refute (put_last place parts)
 with_last place Undone = Undone
 
--- the entry once the form at the place has been moved: its forms have their new numbers, and the parts of a Refute rise again
+-- the entry once the form at the place has been moved: its forms have their new numbers, and the parts of a Refute rise
+-- again
 abbrev pub moved_entry : ℕ → ℕ → Entry → Entry
 moved_entry place others entry = renumbered (moved_number place others) (with_last place entry)

@@ -34,7 +34,8 @@ abbrev pub moved_from : Option ℕ → ℕ → List Entry → List Entry
 moved_from None others tree = tree
 moved_from (Some place) others tree = map (moved_entry place others) tree
 
--- the printed rows are those that the tree names, in their order, and it names them and the form of the total by new numbers
+-- the printed rows are those that the tree names, in their order, and it names them and the form of the total by new
+-- numbers
 pub record IsPrintedLast (t : TotalTree) (printed : PrintedTotal) : Type 0 where
   pub kept : List PoolForm
   pub is_printed : IsTreePrinted (with_total_last t.rows.items) (moved_from t.before (length t.rows.items) t.tree) kept printed.tree

@@ -4,19 +4,18 @@ use Rattle.design_problem.specs.declared.answer.Costs.{Costs}
 use Rattle.design_problem.specs.declared.answer.Verdict.TheVariants.{Optimal}
 use Rattle.design_problem.specs.declared.form.Row.{Row}
 use Rattle.design_problem.specs.declared.tree.Entry.{Entry}
-use Rattle.design_problem.specs.Problems.{DesignProblem}
+use Rattle.design_problem.specs.Problems.{DesignProblem, IsProblemOnGraph}
 use Rattle.design_problem.specs.Boxes.{capped}
 use Rattle.design_problem.specs.Rows.{AreBestCosts, IsRow, box_of, greatest_cost}
 use Rattle.design_problem.specs.Trees.{IsClosed}
-use Rattle.design_problem.specs.Answers.{AnswerParts, IsValid, Names}
+use Rattle.design_problem.specs.Answers.{AnswerParts, CostLinesOf, IsValid}
 use Rattle.design_problem.specs.Text.{row_line}
 use Rattle.cost_branching.specs.Pools.{Differ}
-use Rattle.cost_branching.specs.Rivals.{IsProblemOnGraph}
 use Rattle.printed_rows.specs.FittingTexts.{FitText}
 use Rattle.printed_rows.specs.PrintedTrees.{IsPrintedOver, IsUndecidedOver}
 use Rattle.printed_rows.specs.Sheets.{IsSheet}
-use Rattle.least_total.specs.declared.finding.TotalProof.{TotalProof}
-use Rattle.least_total.specs.declared.finding.TotalProof.TheVariants.{Floor, Tree}
+use Rattle.least_total.specs.declared.finding.TotalEvidence.{TotalEvidence}
+use Rattle.least_total.specs.declared.finding.TotalEvidence.TheVariants.{Floor, Tree}
 use Rattle.least_total.specs.declared.finding.Total.{Total}
 use Rattle.least_total.specs.declared.finding.Total.TheVariants.{Least, Undecided}
 use Rattle.least_total.specs.Totals.{HasLeastTotal, IsFormWithin, LeadsWithin, forms_within, total}
@@ -27,15 +26,15 @@ pub record IsRecosted (p : DesignProblem) (old new : AnswerParts) (w : List ℕ)
   pub best : AreBestCosts p w
   pub costs : Costs
   pub printed : new.costs ≡ Some costs
-  pub names : Names p costs.lines w
+  pub names : CostLinesOf w p.vars costs.lines
   pub tells : new.verdict ≡ Optimal (greatest_cost w)
   pub verdict : new.verdict ≡ old.verdict
   pub floor : new.floor ≡ old.floor
   pub rows : new.rows ≡ old.rows
   pub proof : new.proof ≡ old.proof
 
--- a printed tree over the box at a cap in which the form of the total has this bound: the forms are those of the rows, and
--- behind them that of the total
+-- a printed tree over the box at a cap in which the form of the total has this bound: the forms are those of the rows,
+-- and behind them that of the total
 abbrev pub IsPrintedWithin : DesignProblem → ℕ → ℕ → ℕ → ℕ → List Row → List Entry → Type 0
 IsPrintedWithin p top nodes cap most rows tree =
     IsPrintedOver (LeadsWithin p most) (IsFormWithin p most) top nodes (forms_within p most rows) (capped (box_of p) cap) tree
@@ -50,9 +49,9 @@ IsUndecidedTotal p top nodes cap most rows tree =
 abbrev pub IsTotalSheet : DesignProblem → List Row → List Entry → Type 0
 IsTotalSheet p rows tree = IsSheet (IsRow p) Differ 1 rows tree
 
--- why no fit costs within the cap have a total below the least: that is the total of the lower bounds, or a closed tree over
--- the box at the cap refutes the bound below it
-abbrev pub ShowsLeastTotal : DesignProblem → ℕ → ℕ → ℕ → ℕ → TotalProof → Type 0
+-- why no fit costs within the cap have a total below the least: that is the total of the lower bounds, or a closed tree
+-- over the box at the cap refutes the bound below it
+abbrev pub ShowsLeastTotal : DesignProblem → ℕ → ℕ → ℕ → ℕ → TotalEvidence → Type 0
 ShowsLeastTotal p top nodes cap least Floor = least ≡ total p.low
 ShowsLeastTotal p top nodes cap least (Tree rows tree) =
     (most : ℕ) × (most + 1 ≡ least) × IsTotalSheet p rows.items tree × IsPrintedWithin p top nodes cap most rows.items tree
@@ -65,8 +64,8 @@ pub record CanPrintTotals (p : DesignProblem) (nodes cap : ℕ) : Type 0 where
   pub small : cap ≤ 65535
   pub budget : nodes ≤ 10000000
 
--- what is answered: costs of the least total, with a proof; or better ones than before, or these, and a bound at which the
--- budget was used up
+-- what is answered: costs of the least total, with a proof; or better ones than before, or these, and a bound at which
+-- the budget was used up
 abbrev pub IsTotalAnswer : DesignProblem → ℕ → ℕ → AnswerParts → Total → Type 0
 IsTotalAnswer p top nodes old (Least answer sum proof) =
     (w : List ℕ) × IsRecosted p old answer w × (sum ≡ total w) × HasLeastTotal p w × ShowsLeastTotal p top nodes (greatest_cost w) (total w) proof

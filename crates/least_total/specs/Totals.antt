@@ -34,6 +34,6 @@ pub record LeadsWithin (p : DesignProblem) (most : ℕ) (point : Point) : Type 0
   pub leads : LeadsEach p point
   pub within : pos 0 ≤ℤ value_at (form_of_total p most) point
 
--- a true form: that of a row of the problem, or the one of the total
+-- a form of the problem of costs below a bound of the total: that of a row, or the total's
 abbrev pub IsFormWithin : DesignProblem → ℕ → Form → Type 0
 IsFormWithin p most form = IsFormOfRow p form ⊎ (form ≡ form_of_total p most)

@@ -9,9 +9,9 @@ ghost use Rattle.least_total.specs.Totals.{form_of_total};
 use crate::totals::{is_over, total_form};
 use area_graph::Point;
 use cost_base::OutOfMemory;
-use cost_branching::{Begun, Rivals, keeps_conditions};
-use design_problem::{Problem, Row};
-use form_search::{Asked, FormPool, RowSource};
+use cost_branching::{Begun, Rivals};
+use design_problem::{Problem, Row, keeps_problem_on_graph};
+use form_search::{Asked, FormPool, FormSource};
 use rival_separation::Asker;
 use std::alloc::Global;
 use std::marker::Model;
@@ -49,7 +49,7 @@ impl<'a, B: Begun> Bounded<'a, B> {
         most: u32,
     ) -> Bounded<'a, B>
         requires problem { problem.now ≡ B.problem }
-        requires asker { IsAskerFor problem.now.graph problem.now.paths asker }
+        requires asker { IsAskerFor problem.now.graph problem.now.requests asker }
         requires begun { B.rows ≡ [] }
         requires small { most < 2 ^ 26 }
         ensures { result ≡ record {
@@ -86,7 +86,7 @@ impl<'a, B: Begun> Bounded<'a, B> {
             point.now <ℤ pos 0)
             (pos 0 ≤ℤ value_at (form_of_total self.now.known.problem self.now.most) point.now) }
     {
-        keeps_conditions(self.rivals.problem());
+        keeps_problem_on_graph(self.rivals.problem());
         is_over(point, self.most)
     }
 
@@ -105,7 +105,7 @@ impl<'a, B: Begun> Bounded<'a, B> {
         ensures same_place { OnErr result (self.new.before ≡ self.old.before) }
         ensures same_forms { OnErr result (pool.new ≡ pool.old) }
     {
-        keeps_conditions(self.rivals.problem());
+        keeps_problem_on_graph(self.rivals.problem());
         let variables = self.rivals.problem().low.as_slice().len();
         let form = total_form(pool.alloc(), variables, self.most)?;
         pool.push(form)?;
@@ -114,10 +114,10 @@ impl<'a, B: Begun> Bounded<'a, B> {
     }
 }
 
-impl<'a, B: Begun> RowSource for Bounded<'a, B> {
+impl<'a, B: Begun> FormSource for Bounded<'a, B> {
     ghost use Rattle.std.specs.Prelude.{length};
     ghost use Rattle.least_total.specs.Totals.{LeadsWithin};
-    ghost use Rattle.least_total.specs.Bounded.{IsPoolWithTotal, IsTrueWithin, candidates_within};
+    ghost use Rattle.least_total.specs.Bounded.{IsPoolWithTotal, IsTrueWithin, possible_forms_within};
     ghost use Rattle.least_total.specs.BoundedLaws.{total_scale_is_free, total_forms_hold, total_forms_listed};
 
     ghost count = { λ s. length s.known.problem.low };
@@ -128,14 +128,14 @@ impl<'a, B: Begun> RowSource for Bounded<'a, B> {
 
     ghost in_step = { λ s forms. IsPoolWithTotal s forms };
 
-    ghost candidates = { λ s. candidates_within s.known.problem s.most };
+    ghost possible_forms = { λ s. possible_forms_within s.known.problem s.most };
 
     fn variables(&self) -> u32 {
         self.rivals.variables()
     }
 
     fn ask(&mut self, point: &Point, pool: &mut FormPool) -> Result<Asked, OutOfMemory> {
-        keeps_conditions(self.rivals.problem());
+        keeps_problem_on_graph(self.rivals.problem());
         let asked = self.rivals.ask_all(point, pool)?;
         if !self.is_over(point) {
             return Ok(asked);

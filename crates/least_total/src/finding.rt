@@ -4,21 +4,20 @@ ghost use Rattle.design_problem.specs.declared.answer.Verdict.TheVariants.{Optim
 ghost use Rattle.design_problem.specs.Problems.{DesignProblem};
 ghost use Rattle.design_problem.specs.Answers.{IsValid};
 ghost use Rattle.least_total.specs.Results.{CanPrintTotals, IsTotalAnswer, ShowsLeastTotal};
-ghost use Rattle.least_total.specs.Rounds.{IsKeptBelowTotal, IsNarrowed, IsStanding};
+ghost use Rattle.least_total.specs.Rounds.{IsKeptBelowTotal, IsNarrowed, IsTotalSoFar};
 
 use crate::printing::{PrintedTotal, printed_total};
 use crate::recosting::{costs_in, recosted};
 use crate::rounds::{Round, TotalTree, one_round};
-use crate::standing::Standing;
+use crate::so_far::SoFar;
 use cost_base::OutOfMemory;
-use cost_branching::keeps_conditions;
-use design_problem::{Answer, Problem, Row, Tree, greatest_of};
+use design_problem::{Answer, Problem, Row, Tree, greatest_of, keeps_problem_on_graph};
 use std::alloc::Global;
 use wide_fraction::Limits;
 
 /// Why no best costs have a smaller total.
 #[derive(Drop)]
-pub enum TotalProof {
+pub enum TotalEvidence {
     /// It is the total of the lower bounds.
     Floor,
     /// A closed tree over the box at the answer's greatest cost, in which the form of the total has the bound `total -
@@ -35,7 +34,7 @@ pub enum Total {
         answer: Answer,
         /// Their total.
         total: u64,
-        proof: TotalProof,
+        proof: TotalEvidence,
     },
     /// The budget was used up.
     Undecided {
@@ -54,8 +53,8 @@ pub enum Total {
 /// What the rounds come to: the costs so far, and, where the budget was used up, the bound and the tree of that round.
 #[derive(Drop)]
 pub(crate) struct Narrowed {
-    pub(crate) standing: Standing,
-    pub(crate) open: Option<(u32, TotalTree)>,
+    pub(crate) so_far: SoFar,
+    pub(crate) undecided: Option<(u32, TotalTree)>,
 }
 
 /// Runs rounds until none is left, or until one uses the budget up.
@@ -64,34 +63,34 @@ fn run_rounds(
     problem: &Problem,
     cap: u16,
     limits: &Limits,
-    standing: Standing,
+    so_far: SoFar,
 ) -> Result<Narrowed, OutOfMemory>
     requires cap { All (λ low. low ≤ cap) problem.now.low }
-    requires standing { IsStanding problem.now limits.now.top limits.now.nodes cap standing }
+    requires so_far { IsTotalSoFar problem.now limits.now.top limits.now.nodes cap so_far }
     ensures { IfOk result (IsNarrowed problem.now limits.now.top limits.now.nodes cap) }
 {
-    keeps_conditions(problem);
-    let mut standing = standing;
-    while let Some(most) = standing.next_bound() {
+    keeps_problem_on_graph(problem);
+    let mut so_far = so_far;
+    while let Some(most) = so_far.next_bound() {
         match one_round(alloc, problem, cap, most, limits)? {
-            Round::Costs(costs) => standing = standing.with_costs(costs),
-            Round::Refuted(tree) => standing = standing.without(most, tree),
+            Round::Costs(costs) => so_far = so_far.with_costs(costs),
+            Round::Refuted(tree) => so_far = so_far.without(most, tree),
             Round::Undecided(tree) => {
                 return Ok(Narrowed {
-                    standing,
-                    open: Some((most, tree)),
+                    so_far,
+                    undecided: Some((most, tree)),
                 });
             }
         }
     }
     Ok(Narrowed {
-        standing,
-        open: None,
+        so_far,
+        undecided: None,
     })
 }
 
 /// The proof that a kept tree is, or the floor where none is kept.
-fn proof_of(alloc: Global, kept: Option<TotalTree>) -> Result<TotalProof, OutOfMemory>
+fn proof_of(alloc: Global, kept: Option<TotalTree>) -> Result<TotalEvidence, OutOfMemory>
     requires { (p : DesignProblem) × (top : ℕ) × (nodes : ℕ) × (cap : ℕ) × (least : ℕ) ×
         IsKeptBelowTotal p top nodes cap least kept }
     ensures { IfOk result (λ proof. (p : DesignProblem) (top nodes cap least : ℕ) →
@@ -99,10 +98,10 @@ fn proof_of(alloc: Global, kept: Option<TotalTree>) -> Result<TotalProof, OutOfM
         ShowsLeastTotal p top nodes cap least proof) }
 {
     match kept {
-        None => Ok(TotalProof::Floor),
+        None => Ok(TotalEvidence::Floor),
         Some(tree) => {
             let PrintedTotal { rows, tree } = printed_total(alloc, tree)?;
-            Ok(TotalProof::Tree { rows, tree })
+            Ok(TotalEvidence::Tree { rows, tree })
         }
     }
 }
@@ -127,18 +126,18 @@ pub fn least_total(
     requires optimal { (k : ℕ) × (answer.verdict ≡ Optimal k) }
     ensures { IfOk result (IsTotalAnswer problem.now limits.now.top limits.now.nodes answer) }
 {
-    keeps_conditions(problem);
+    keeps_problem_on_graph(problem);
     let costs = costs_in(alloc, problem, &answer)?;
     let cap = greatest_of(costs.as_slice());
-    let standing = Standing::start(problem, costs);
-    let Narrowed { standing, open } = run_rounds(alloc, problem, cap, limits, standing)?;
-    let answer = recosted(alloc, problem, answer, &standing.costs)?;
-    let total = u64::from(standing.total);
-    match open {
+    let so_far = SoFar::start(problem, costs);
+    let Narrowed { so_far, undecided } = run_rounds(alloc, problem, cap, limits, so_far)?;
+    let answer = recosted(alloc, problem, answer, &so_far.costs)?;
+    let total = u64::from(so_far.total);
+    match undecided {
         None => Ok(Total::Least {
             answer,
             total,
-            proof: proof_of(alloc, standing.kept)?,
+            proof: proof_of(alloc, so_far.kept)?,
         }),
         Some((most, tree)) => {
             let PrintedTotal { rows, tree } = printed_total(alloc, tree)?;

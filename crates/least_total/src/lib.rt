@@ -7,7 +7,7 @@ mod moving;
 mod printing;
 mod recosting;
 mod rounds;
-mod standing;
+mod so_far;
 mod totals;
 
-pub use finding::{Total, TotalProof, least_total};
+pub use finding::{Total, TotalEvidence, least_total};

@@ -1,11 +1,11 @@
 //! The form of the total is moved behind the forms of the rows.
 ghost use Rattle.std.specs.Prelude.{◌≡◌, ◌+◌, ◌<◌, ◌≤◌, ◌++◌, map, All, IfOk, OnOk};
-ghost use Rattle.design_problem.specs.Renumbering.{renumbered_part};
+ghost use Rattle.design_problem.specs.Renumbering.{renumbered_multiplier};
 ghost use Rattle.printed_rows.specs.NamedRows.{NamesBelow};
 ghost use Rattle.least_total.specs.Moving.{AreMovedNumbers, moved_entry, moved_number, picked, put_last};
 
-use cost_base::OutOfMemory;
-use design_problem::{Entry, Parts, Tree};
+use cost_base::{OutOfMemory, push_if};
+use design_problem::{Entry, Multipliers, Tree};
 use printed_rows::renumbered_entry;
 use std::alloc::Global;
 
@@ -43,29 +43,28 @@ impl Move {
     ) -> Result<(), OutOfMemory>
         requires { All (λ part. part.0 < self.others + 1) parts.now }
         ensures { OnOk result (pairs.new.items ≡ pairs.old.items ++
-            map (renumbered_part (moved_number self.place self.others))
+            map (renumbered_multiplier (moved_number self.place self.others))
             (picked own self.place parts.now)) }
     {
         for (row, multiplier) in parts {
-            if (*row == self.place) == own {
-                pairs.push((self.number(*row), *multiplier))?;
-            }
+            let moved = (self.number(*row), *multiplier);
+            push_if(pairs, moved, (*row == self.place) == own)?;
         }
         Ok(())
     }
 
     /// The parts of a Refute with the new numbers of their forms, in rising order.
-    fn parts(self, alloc: Global, parts: &Parts) -> Result<Parts, OutOfMemory>
+    fn parts(self, alloc: Global, parts: &Multipliers) -> Result<Multipliers, OutOfMemory>
         requires place { self.place ≤ self.others }
         requires known { All (λ part. part.0 < self.others + 1) parts.now }
         ensures { IfOk result
-            (λ new. new ≡ map (renumbered_part (moved_number self.place self.others))
+            (λ new. new ≡ map (renumbered_multiplier (moved_number self.place self.others))
             (put_last self.place parts.now)) }
     {
         let mut pairs = Vec::new(alloc);
         self.push_parts(&mut pairs, parts.as_slice(), false)?;
         self.push_parts(&mut pairs, parts.as_slice(), true)?;
-        Ok(Parts::from_items(pairs))
+        Ok(Multipliers::from_items(pairs))
     }
 
     /// The new numbers of all forms.

@@ -8,8 +8,7 @@ ghost use Rattle.least_total.specs.Results.{IsRecosted};
 ghost use Rattle.least_total.specs.Given.{AreGiven};
 
 use cost_base::OutOfMemory;
-use cost_branching::keeps_conditions;
-use design_problem::{Answer, CostList, Problem, costs_given, lines_in};
+use design_problem::{Answer, CostList, Problem, costs_given, keeps_problem_on_graph, lines_in};
 use printed_rows::printed_costs;
 use std::alloc::Global;
 
@@ -27,7 +26,7 @@ pub(crate) fn costs_in(
     requires optimal { (k : ℕ) × (answer.now.verdict ≡ Optimal k) }
     ensures { IfOk result (AreGiven problem.now answer.now) }
 {
-    keeps_conditions(problem);
+    keeps_problem_on_graph(problem);
     let count = problem.low.as_slice().len();
     let lines = lines_in(&answer.costs);
     let costs = costs_given(alloc, count, problem.vars.as_slice(), lines)?;
@@ -50,7 +49,7 @@ pub(crate) fn recosted(
         costs.now }
     ensures { IfOk result (λ new. IsRecosted problem.now answer new costs.now) }
 {
-    keeps_conditions(problem);
+    keeps_problem_on_graph(problem);
     let costs = printed_costs(alloc, problem, costs.as_slice())?;
     let Answer {
         verdict,
@@ -58,7 +57,7 @@ pub(crate) fn recosted(
         floor,
         rows,
         proof,
-        unfinished,
+        undecided,
     } = answer;
     Ok(Answer {
         verdict,
@@ -66,6 +65,6 @@ pub(crate) fn recosted(
         floor,
         rows,
         proof,
-        unfinished,
+        undecided,
     })
 }

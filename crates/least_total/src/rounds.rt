@@ -5,8 +5,8 @@ ghost use Rattle.least_total.specs.Rounds.{IsRound, IsTotalSought};
 
 use crate::bounded::Bounded;
 use cost_base::OutOfMemory;
-use cost_branching::{Begun, keeps_conditions};
-use design_problem::{CostBox, CostList, Problem, Row, Tree, box_at};
+use cost_branching::Begun;
+use design_problem::{CostBox, CostList, Problem, Row, Tree, box_at, keeps_problem_on_graph};
 use form_search::{FormPool, Found, search};
 use rival_separation::Asker;
 use std::alloc::Global;
@@ -63,8 +63,8 @@ fn search_within<B: Begun>(
     ensures { IfOk result (IsTotalSought problem.now limits.now.top limits.now.nodes most
         costs.now) }
 {
-    keeps_conditions(problem);
-    let asker = Asker::new(alloc, &problem.graph, problem.paths.as_slice())?;
+    keeps_problem_on_graph(problem);
+    let asker = Asker::new(alloc, &problem.graph, problem.requests.as_slice())?;
     let mut source = Bounded::<B>::new(alloc, problem, asker, most);
     let mut pool = FormPool::new(alloc);
     let mut advisors = Vec::new(alloc);
@@ -93,7 +93,7 @@ pub(crate) fn one_round(
     requires small { most < 2 ^ 26 }
     ensures { IfOk result (IsRound problem.now limits.now.top limits.now.nodes cap most) }
 {
-    keeps_conditions(problem);
+    keeps_problem_on_graph(problem);
     let costs = box_at(alloc, problem, cap)?;
     let Sought {
         rows,

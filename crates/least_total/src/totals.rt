@@ -6,7 +6,7 @@ ghost use Rattle.least_total.specs.Totals.{total, total_form};
 
 use area_graph::Point;
 use cost_base::OutOfMemory;
-use design_problem::Form;
+use design_problem::{Form, sum_of_costs};
 use std::alloc::Global;
 
 /// The total of costs of at most 1,000 variables: their sum.
@@ -15,11 +15,7 @@ pub(crate) fn total_of(costs: &[u16]) -> u32
     ensures total { result ≡ total costs.now }
     ensures small { result < 2 ^ 26 }
 {
-    let mut total = 0u32;
-    for cost in costs {
-        total += u32::from(*cost);
-    }
-    total
+    sum_of_costs(costs) as u32
 }
 
 /// The form of the total in so many variables: `most` minus the sum of all variables.

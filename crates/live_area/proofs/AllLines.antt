@@ -21,7 +21,8 @@ lines_by configs costs lsas found links ends =
     ++ (flat_map (lsa_lines configs ends) lsas ++ Same (count_by is_as_said (compared_from lsas found links costs 0 ends)) (length links) ∷ [])
 
 -- what a comparison works with is what its input says
-pub record ArePartsOf (configs : List Router) (lsdb : Database) (live lsas : List Lsa) (found : List LiveLink) (links : List Linked) (ends : List LinkEnd) : Type 0 where
+pub record ArePartsOf (configs : List Router) (lsdb : Database) (live lsas : List Lsa) (found : List LiveLink) (links : List Linked) (ends : List LinkEnd) :
+    Type 0 where
   pub same_lsas : lsas ≡ live
   pub same_found : found ≡ flat_map live_links_of lsas
   pub same_links : links ≡ lsdb.links
@@ -36,7 +37,8 @@ whole configs lsdb costs live lsas found links ends parts =
     ∙ ap (λ (ls : List Lsa). lines_by configs costs ls (flat_map live_links_of ls) lsdb.links (link_ends configs lsdb.links)) parts.same_lsas
 
 -- the lines of the interfaces, then those of the router-LSAs, and the count are all
-pub all_lines : (configs : List Router) (lsdb : Database) (costs : List ℕ) (live lsas : List Lsa) (found : List LiveLink) (links : List Linked) (ends : List LinkEnd)
+pub all_lines : (configs : List Router) (lsdb : Database) (costs : List ℕ) (live lsas : List Lsa) (found : List LiveLink) (links : List Linked)
+    (ends : List LinkEnd)
     (interfaces : List Compared) (same linked : ℕ) (first second lines : List Difference) →
     ArePartsOf configs lsdb live lsas found links ends → interfaces ≡ compared_from lsas found links costs 0 ends →
     first ≡ compared_lines None interfaces → second ≡ first ++ flat_map (lsa_lines configs ends) lsas →

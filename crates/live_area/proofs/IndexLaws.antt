@@ -17,7 +17,8 @@ metric_push : (name : LinkName) (links : List LiveLink) (link : LiveLink) →
 metric_push name [] link = refl
 metric_push name (first ∷ links) link = by_test (is_link_named_so name first) (metric_push name links link)
   where
-    by_test : (b : Bool) → metric_named name (links ++ link ∷ []) ≡ option_or (metric_named name links) (cond (is_link_named_so name link) (Some link.metric) None) →
+    by_test : (b : Bool) → metric_named name (links ++ link ∷ []) ≡
+        option_or (metric_named name links) (cond (is_link_named_so name link) (Some link.metric) None) →
         cond b (Some first.metric) (metric_named name (links ++ link ∷ []))
         ≡ option_or (cond b (Some first.metric) (metric_named name links)) (cond (is_link_named_so name link) (Some link.metric) None)
     by_test true rest = refl

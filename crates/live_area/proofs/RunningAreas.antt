@@ -1,21 +1,20 @@
 -- An area at the costs at which it runs is one.
 use Rattle.std.proofs.Common.{inl, inr, ◌≡◌, ◌≢◌, ℕ, zero, suc, ◌+◌, ◌<◌, ◌≤◌, refl, sym, ◌∙◌, ap, subst, List, [], ◌∷◌, length, map, arith, Bool, true, false, Option, Some, None}
-use Rattle.std.specs.Prelude.{All, AllPairs, IfSome, filter, flat_map, is_some, slice_get, slice_index_or, ◌&&◌, ◌==◌}
+use Rattle.std.specs.Prelude.{All, IfSome, filter, flat_map, is_some, slice_get, slice_index_or, ◌&&◌, ◌==◌}
 use Rattle.std.specs.List.{AllByRecursion, list_any}
 use Rattle.std.specs.Option.{option_map, option_or}
 use Rattle.std.proofs.lemmas.List.{length-map}
 use Rattle.std.proofs.lemmas.List.Elements.{All-map, All-weaker, All-head, All-tail}
-use Rattle.std.proofs.lemmas.List.Kept.{AllPairs-cons}
 use Rattle.std.proofs.lemmas.Option.{get_or_from_slice_get, slice_get-map}
 use Rattle.std.proofs.lemmas.Bool.{cases_Bool, false≢true, or_parts}
 use Rattle.cost_base.specs.Lists.{numbers_from}
-use Rattle.cost_base.proofs.ListLemmas.{filter-numbers_from-agree, each_append}
+use Rattle.cost_base.proofs.ListLemmas.{filter-numbers_from-agree, each_append, pairs_map}
 use Rattle.interface_model.specs.Records.{Router}
 use Rattle.lsdb_build.specs.declared.Far.{Far}
 use Rattle.lsdb_build.specs.declared.Far.TheVariants.{Router as ToRouter, Subnet as ToSubnet}
 use Rattle.lsdb_build.specs.declared.Linked.{Linked}
 use Rattle.lsdb_build.specs.Graphs.{Database, IsAreaDatabase, IsDatabaseLink, IsFar, HasLinkBack, IsLinkBackOf, links_into_subnet, link_leads_to}
-use Rattle.lsdb_build.proofs.Pairs.{at_map, map_at, pairs_head, pairs_nil, pairs_tail}
+use Rattle.lsdb_build.proofs.Pairs.{at_map, map_at}
 use Rattle.lsa_bytes.specs.declared.LsaLink.{LsaLink}
 use Rattle.lsa_bytes.specs.declared.Body.{Body}
 use Rattle.lsa_bytes.specs.declared.Body.TheVariants.{Links, Attached}
@@ -29,7 +28,8 @@ use Rattle.live_area.specs.LiveCosts.{costed_by, costed_from, live_metric, metri
 
 -- Metrics of links are above 0.
 
-among_above : (router : ℕ) (links : List LsaLink) → list_any is_zero_link links ≡ false → AllByRecursion (λ (l : LiveLink). 0 < l.metric) (live_links_among router links)
+among_above : (router : ℕ) (links : List LsaLink) → list_any is_zero_link links ≡ false →
+    AllByRecursion (λ (l : LiveLink). 0 < l.metric) (live_links_among router links)
 among_above router [] none = tt
 among_above router (link ∷ more) none =
     let parts = or_parts (is_zero_link link) (list_any is_zero_link more) none in
@@ -88,7 +88,8 @@ costed_are f metrics l (link ∷ links) each =
     (λ k x at. let next : l + 1 + k ≡ l + suc k = omega arith in ap (λ n. slice_index_or metrics n None) next ∙ each (suc k) x at) in
     rw (head, tail) refl
 
-metric_here : (f : Linked → Option ℕ) (links : List Linked) (k : ℕ) (link : Linked) → slice_get links k ≡ Some link → slice_index_or (map f links) k None ≡ f link
+metric_here : (f : Linked → Option ℕ) (links : List Linked) (k : ℕ) (link : Linked) → slice_get links k ≡ Some link →
+    slice_index_or (map f links) k None ≡ f link
 metric_here f links k link at = get_or_from_slice_get (map f links) k (f link) None (at_map f links k link at)
 
 -- Areas with other costs above 0.
@@ -135,15 +136,11 @@ leads_stay f s (Some link) = refl
 
 members_stay : (f : Linked → Option ℕ) (d : Database) (s : ℕ) → links_into_subnet (with_costs f d) s ≡ links_into_subnet d s
 members_stay f d s =
-    ap (λ n. filter (λ l. link_leads_to s (slice_get (map (λ x. costed_by (f x) x) d.links) l)) (numbers_from 0 n)) (length-map d.links (λ x. costed_by (f x) x))
-    ∙ filter-numbers_from-agree (λ l. link_leads_to s (slice_get (map (λ x. costed_by (f x) x) d.links) l)) (λ l. link_leads_to s (slice_get d.links l)) 0 (length d.links)
+    ap (λ n. filter (λ l. link_leads_to s (slice_get (map (λ x. costed_by (f x) x) d.links) l)) (numbers_from 0 n))
+    (length-map d.links (λ x. costed_by (f x) x))
+    ∙ filter-numbers_from-agree (λ l. link_leads_to s (slice_get (map (λ x. costed_by (f x) x) d.links) l)) (λ l. link_leads_to s (slice_get d.links l)) 0
+    (length d.links)
     (λ l from below. ap (link_leads_to s) (slice_get-map (λ x. costed_by (f x) x) d.links l) ∙ leads_stay f s (slice_get d.links l))
-
-pairs_map : {X Y : Type 0} (R : Y → Y → Type 0) (f : X → Y) (xs : List X) → AllPairs (λ a b. R (f a) (f b)) xs → AllPairs R (map f xs)
-pairs_map R f [] pairs = pairs_nil R
-pairs_map R f (x ∷ xs) pairs =
-    AllPairs-cons R (f x) (map f xs) (All-map (R (f x)) f xs (pairs_head (λ a b. R (f a) (f b)) x xs pairs))
-    (pairs_map R f xs (pairs_tail (λ a b. R (f a) (f b)) x xs pairs))
 
 area_stays : (f : Linked → Option ℕ) (d : Database) → ((link : Linked) → IfSome (f link) (λ c. 0 < c)) → IsAreaDatabase d → IsAreaDatabase (with_costs f d)
 area_stays f d above base = record {

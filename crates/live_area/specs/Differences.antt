@@ -1,10 +1,10 @@
 -- Where the running area differs from its configurations: the lines of a comparison, in order.
-use Rattle.std.specs.Prelude.{ℕ, ◌+◌, ◌==◌, ◌&&◌, not, List, [], ◌∷◌, ◌++◌, flat_map, length, count_by, slice_get, slice_index, nat_eq, option_to_list, Bool, Option, Some, None, if◌then◌else◌}
+use Rattle.std.specs.Prelude.{ℕ, ◌+◌, ◌==◌, ◌&&◌, not, List, [], ◌∷◌, ◌++◌, flat_map, length, count_by, slice_index, nat_eq, option_to_list, Bool, Option, Some, None, if◌then◌else◌}
 use Rattle.std.specs.List.{list_any}
 use Rattle.std.specs.Option.{option_eq}
 use Rattle.interface_model.specs.Records.{Router}
 use Rattle.lsdb_build.specs.declared.Linked.{Linked}
-use Rattle.lsdb_build.specs.Graphs.{Database}
+use Rattle.lsdb_build.specs.Graphs.{Database, router_of}
 use Rattle.lsa_bytes.specs.declared.Lsa.{Lsa}
 use Rattle.lsa_bytes.specs.Databases.{is_router_lsa, is_router_of}
 use Rattle.lsa_bytes.specs.Ids.{is_id}
@@ -16,21 +16,12 @@ use Rattle.live_area.specs.declared.links.LiveLink.{LiveLink}
 use Rattle.live_area.specs.declared.interfaces.Compared.{Compared}
 use Rattle.live_area.specs.LiveLinks.{is_end_named, live_links_of, metric_at, name_of_link}
 
--- the number of the router of a link; 0 where there is no link
-abbrev pub router_in : Option Linked → ℕ
-router_in None = 0
-router_in (Some link) = link.router
-
--- the number of the router of the link of a number; 0 where there is no link
-abbrev pub router_of_link : List Linked → ℕ → ℕ
-router_of_link links l = router_in (slice_get links l)
-
 -- the linked interfaces of these ends, numbered from `l` on, each with its cost and with what the router-LSAs say of it
 abbrev pub compared_from : List Lsa → List LiveLink → List Linked → List ℕ → ℕ → List LinkEnd → List Compared
 compared_from lsas live links costs l [] = []
 compared_from lsas live links costs l (end ∷ more) =
     record {
-      router = router_of_link links l;
+      router = router_of links l;
       link = l;
       cost = slice_index costs l;
       counts = list_any (is_router_of end.router) lsas;

@@ -8,7 +8,7 @@ use Rattle.lsa_writer.specs.declared.ends.LinkEnd.{LinkEnd}
 use Rattle.live_area.specs.declared.links.LiveLink.{LiveLink}
 use Rattle.live_area.specs.declared.metrics.LinkName.{LinkName}
 
--- the link leads to a router or into a transit network
+-- the link leads to a router or into a transit subnet
 abbrev pub is_area_link : LsaLink → Bool
 is_area_link link = link.kind == 1 || link.kind == 2
 

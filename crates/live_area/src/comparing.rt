@@ -9,7 +9,7 @@ use crate::metrics::EndMetrics;
 use crate::routers::push_router_lines;
 use cost_base::OutOfMemory;
 use interface_model::RouterConfig;
-use lsa_bytes::Database;
+use lsa_bytes::LsaDatabase;
 use lsa_writer::{CostedLinks, ends_of};
 use lsdb_build::Lsdb;
 use std::alloc::Global;
@@ -30,7 +30,7 @@ pub fn compare(
     configs: &[RouterConfig],
     lsdb: &Lsdb,
     costs: &[u16],
-    live: &Database,
+    live: &LsaDatabase,
 ) -> Result<Vec<Difference>, OutOfMemory>
     requires { length costs.now ≡ length lsdb.now.links }
     ensures { IfOk result (λ lines. lines.items ≡ difference_lines configs.now lsdb.now costs.now

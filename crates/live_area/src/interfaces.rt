@@ -1,8 +1,9 @@
 //! Linked interfaces beside their links.
-ghost use Rattle.std.specs.Prelude.{◌≡◌, ◌≤◌, ◌++◌, ℕ, List, None, IfOk, OnOk, count_by, length, option_to_list, slice_index};
+ghost use Rattle.std.specs.Prelude.{◌≡◌, ◌≤◌, ◌++◌, ℕ, List, None, IfOk, OnOk, count_by, length, slice_index};
 ghost use Rattle.std.specs.List.{list_any};
 ghost use Rattle.std.specs.Ordering.{nat_cmp};
 ghost use Rattle.std.specs.BTreeSet.{contains};
+ghost use Rattle.lsdb_build.specs.Graphs.{router_of};
 ghost use Rattle.lsa_bytes.specs.Databases.{is_router_of};
 ghost use Rattle.live_area.specs.declared.links.LiveLink.{LiveLink as OneLink};
 ghost use Rattle.live_area.specs.Indexes.{HasLinkMetrics};
@@ -10,7 +11,7 @@ ghost use Rattle.live_area.specs.Differences as definition;
 
 use crate::Difference;
 use crate::metrics::EndMetrics;
-use cost_base::OutOfMemory;
+use cost_base::{OutOfMemory, push_some};
 use lsa_bytes::{Lsa, is_router};
 use lsa_writer::CostedLinks;
 use lsdb_build::Linked;
@@ -43,8 +44,9 @@ fn router_ids(alloc: Global, lsas: &[Lsa]) -> Result<BTreeSet<u32>, OutOfMemory>
 }
 
 /// The number of the router of a link by its number, 0 where there is none.
+#[tactic(auto, using(crate::proofs::LineSteps::routers_known))]
 fn router_of(links: &[Linked], link: usize) -> u32
-    ensures { result ≡ definition.router_of_link links.now link }
+    ensures { result ≡ router_of links.now link }
 {
     match links.get(link) {
         Some(link) => link.router,
@@ -124,16 +126,6 @@ fn link_line(before: Option<u32>, interface: Compared) -> Option<Difference>
     }
 }
 
-/// Adds a line, if there is one.
-pub fn push_line(lines: &mut Vec<Difference>, line: Option<Difference>) -> Result<(), OutOfMemory>
-    ensures { OnOk result (lines.new.items ≡ lines.old.items ++ option_to_list line) }
-{
-    if let Some(line) = line {
-        lines.push(line)?;
-    }
-    Ok(())
-}
-
 /// Adds the lines of linked interfaces, in order.
 pub fn push_interface_lines(
     lines: &mut Vec<Difference>,
@@ -144,7 +136,7 @@ pub fn push_interface_lines(
 {
     let mut before = None;
     for interface in interfaces {
-        push_line(lines, link_line(before, *interface))?;
+        push_some(lines, link_line(before, *interface))?;
         before = Some(interface.router);
     }
     Ok(())

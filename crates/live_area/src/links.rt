@@ -2,9 +2,8 @@
 ghost use Rattle.std.specs.Prelude.{◌≡◌, ◌++◌, IfOk, OnOk, flat_map};
 ghost use Rattle.live_area.specs.LiveLinks as definition;
 
-use cost_base::OutOfMemory;
+use cost_base::{OutOfMemory, push_if};
 use lsa_bytes::{Body, Lsa, LsaLink, POINT_TO_POINT_LINK, TRANSIT_LINK};
-use lsa_writer::LinkEnd;
 use std::alloc::Global;
 
 /// A link of type 1 or 2 of a router-LSA: its advertising router, its link data and its metric.
@@ -15,7 +14,7 @@ pub struct LiveLink {
     pub metric: u16,
 }
 
-/// Whether a link leads to a router or into a transit network.
+/// Whether a link leads to a router or into a transit subnet.
 fn is_area_link(link: &LsaLink) -> bool
     ensures { result ≡ definition.is_area_link link.now }
 {
@@ -28,13 +27,12 @@ fn push_links(found: &mut Vec<LiveLink>, router: u32, links: &[LsaLink]) -> Resu
         definition.live_links_among router links.now) }
 {
     for link in links {
-        if is_area_link(link) {
-            found.push(LiveLink {
-                router,
-                address: link.address,
-                metric: link.metric,
-            })?;
-        }
+        let live = LiveLink {
+            router,
+            address: link.address,
+            metric: link.metric,
+        };
+        push_if(found, live, is_area_link(link))?;
     }
     Ok(())
 }
@@ -60,23 +58,4 @@ pub fn live_links(alloc: Global, lsas: &[Lsa]) -> Result<Vec<LiveLink>, OutOfMem
         found.extend_from_slice(&links)?;
     }
     Ok(found)
-}
-
-/// Whether a link is one of an interface with this end.
-fn is_of_end(link: &LiveLink, end: LinkEnd) -> bool
-    ensures { result ≡ definition.is_link_named_so (definition.name_of_end end) link.now }
-{
-    link.router == end.router && link.address == end.address
-}
-
-/// The metric of the link of an interface with this end: the first one with its router ID and its address.
-pub fn metric_at(links: &[LiveLink], end: LinkEnd) -> Option<u16>
-    ensures { result ≡ definition.metric_at end links.now }
-{
-    for link in links {
-        if is_of_end(link, end) {
-            return Some(link.metric);
-        }
-    }
-    None
 }

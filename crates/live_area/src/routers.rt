@@ -7,10 +7,9 @@ ghost use Rattle.live_area.specs.Indexes.{HasLinkMetrics, HaveAddresses};
 ghost use Rattle.live_area.specs.Differences as definition;
 
 use crate::Difference;
-use crate::interfaces::push_line;
 use crate::links::{LiveLink, links_of_lsa};
 use crate::metrics::EndMetrics;
-use cost_base::OutOfMemory;
+use cost_base::{OutOfMemory, push_some};
 use interface_model::RouterConfig;
 use lsa_bytes::{Lsa, have_id, is_router};
 use std::alloc::Global;
@@ -56,7 +55,7 @@ fn push_unknown_lines(
     let mut seen = BTreeSet::new(alloc);
     for link in links {
         let first = see(&mut seen, *link)?;
-        push_line(lines, unknown_line(metrics.has_end(*link), first, *link))?;
+        push_some(lines, unknown_line(metrics.has_end(*link), first, *link))?;
     }
     Ok(())
 }
@@ -77,7 +76,7 @@ fn push_lsa_lines(
         return Ok(());
     }
     if !have_id(configs, lsa.router) {
-        return push_line(lines, Some(Difference::Stranger { router: lsa.router }));
+        return push_some(lines, Some(Difference::Stranger { router: lsa.router }));
     }
     let links = links_of_lsa(alloc, lsa)?;
     push_unknown_lines(alloc, lines, metrics, &links)?;

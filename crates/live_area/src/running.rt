@@ -1,13 +1,18 @@
 //! An area at the costs at which it runs.
-ghost use Rattle.std.specs.Prelude.{◌≡◌, ◌≤◌, None, Some, IfOk, is_some, length, map, slice_get, slice_index_or};
+ghost use Rattle.std.specs.Prelude.{◌≡◌, ◌≤◌, List, None, Some, IfOk, is_some, length, map, slice_get, slice_index_or};
 ghost use Rattle.std.specs.Option.{option_or};
-ghost use Rattle.lsa_writer.specs.Ends.{end_of, router_id_in};
+ghost use Rattle.lsa_writer.specs.Ends.{end_of, link_ends, router_id_in};
+ghost use Rattle.lsa_writer.specs.declared.ends.LinkEnd.{LinkEnd as OneEnd};
+ghost use Rattle.live_area.specs.declared.links.LiveLink.{LiveLink as OneLink};
+ghost use Rattle.live_area.specs.LiveLinks.{metric_at};
+ghost use Rattle.live_area.specs.Indexes.{HasLinkMetrics};
 ghost use Rattle.live_area.specs.LiveCosts as definition;
 
-use crate::links::{LiveLink, live_links, metric_at};
-use cost_base::{Listed, Name, OutOfMemory};
+use crate::links::{LiveLink, live_links};
+use crate::metrics::EndMetrics;
+use cost_base::{Listed, Name, OutOfMemory, push_if};
 use interface_model::RouterConfig;
-use lsa_bytes::{Database, Lsa};
+use lsa_bytes::{Lsa, LsaDatabase};
 use lsa_writer::{LinkEnd, ends_of};
 use lsdb_build::{Linked, Lsdb};
 use std::alloc::Global;
@@ -31,23 +36,61 @@ fn has_router_id(configs: &[RouterConfig], router: u32) -> bool
     }
 }
 
-/// The metric of the link of a linked interface, by its number and the ends of all.
+/// The end of a number, if there is one.
+fn end_in(ends: &[LinkEnd], number: usize) -> Option<LinkEnd>
+    ensures { result ≡ slice_get ends.now number }
+{
+    ends.get(number).copied()
+}
+
+/// The metric of the link of the end of a number, by the metrics of all ends.
+fn metric_at(by_end: &EndMetrics, ends: &[LinkEnd], number: usize) -> Option<u16>
+    ensures { (end : OneEnd) (live : List OneLink) → HasLinkMetrics by_end.now.by_name ends.now
+        live → slice_get ends.now number ≡ Some end → result ≡ metric_at end live }
+{
+    match end_in(ends, number) {
+        Some(end) => by_end.at(end),
+        None => None,
+    }
+}
+
+/// The metric of the link of a linked interface, by its number, and the ends of all with their metrics.
 fn metric_of(
     configs: &[RouterConfig],
-    found: &[LiveLink],
+    by_end: &EndMetrics,
     ends: &[LinkEnd],
     number: usize,
     link: &Linked,
 ) -> Option<u16>
     requires { slice_get ends.now number ≡ Some (end_of configs.now link.now) }
-    ensures { result ≡ definition.metric_among configs.now found.now link.now }
+    ensures { (live : List OneLink) → HasLinkMetrics by_end.now.by_name ends.now live →
+        result ≡ definition.metric_among configs.now live link.now }
 {
-    let end = ends.get(number)?;
     if has_router_id(configs, link.router) {
-        metric_at(found, *end)
+        metric_at(by_end, ends, number)
     } else {
         None
     }
+}
+
+/// The metrics of the links of linked interfaces with these ends, in order.
+fn metrics_of_ends(
+    alloc: Global,
+    configs: &[RouterConfig],
+    found: &[LiveLink],
+    ends: &[LinkEnd],
+    links: &[Linked],
+) -> Result<Vec<Option<u16>>, OutOfMemory>
+    requires { ends.now ≡ link_ends configs.now links.now }
+    ensures { IfOk result
+        (λ metrics. metrics.items ≡ map (definition.metric_among configs.now found.now) links.now) }
+{
+    let by_end = EndMetrics::among(alloc, ends, found)?;
+    let mut metrics = Vec::new(alloc);
+    for (number, link) in links.iter().enumerate() {
+        metrics.push(metric_of(configs, &by_end, ends, number, link))?;
+    }
+    Ok(metrics)
 }
 
 /// The metrics of the links of linked interfaces, in order.
@@ -61,11 +104,7 @@ fn metrics_among(
         (λ metrics. metrics.items ≡ map (definition.metric_among configs.now found.now) links.now) }
 {
     let ends = ends_of(alloc, configs, links)?;
-    let mut metrics = Vec::new(alloc);
-    for (number, link) in links.iter().enumerate() {
-        metrics.push(metric_of(configs, found, &ends, number, link))?;
-    }
-    Ok(metrics)
+    metrics_of_ends(alloc, configs, found, &ends, links)
 }
 
 /// The metrics of the links of linked interfaces, as LSAs say them, in order.
@@ -89,9 +128,7 @@ fn missing_of(alloc: Global, metrics: &[Option<u16>]) -> Result<Vec<u32>, OutOfM
 {
     let mut missing = Vec::new(alloc);
     for (number, metric) in metrics.iter().enumerate() {
-        if metric.is_none() {
-            missing.push(number as u32)?;
-        }
+        push_if(&mut missing, number as u32, metric.is_none())?;
     }
     Ok(missing)
 }
@@ -147,7 +184,7 @@ pub fn running_area(
     alloc: Global,
     configs: &[RouterConfig],
     lsdb: Lsdb,
-    live: &Database,
+    live: &LsaDatabase,
 ) -> Result<RunningArea, OutOfMemory>
     ensures costs { IfOk result (λ area. area.lsdb ≡ definition.with_live_costs configs.now live.now
         lsdb) }

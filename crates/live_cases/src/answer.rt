@@ -1,7 +1,7 @@
 //! What is answered to a line: the router-LSAs that a live file says of an area, or why it is refused.
 use case_scripts::bytes_of;
 use live_reader::read_live;
-use lsa_bytes::{Body, Database, Lsa, LsaLink};
+use lsa_bytes::{Body, Lsa, LsaDatabase, LsaLink};
 use std::alloc::{AllocError, Global};
 use text_lines::area;
 
@@ -28,7 +28,7 @@ fn push_lsa(alloc: Global, text: &mut String, lsa: &Lsa) -> Result<(), AllocErro
 }
 
 /// The LSAs that count.
-fn lsas_text(alloc: Global, live: &Database) -> Result<String, AllocError> {
+fn lsas_text(alloc: Global, live: &LsaDatabase) -> Result<String, AllocError> {
     let mut text = String::new(alloc);
     text.push_str("LSAs")?;
     for lsa in live.as_slice() {

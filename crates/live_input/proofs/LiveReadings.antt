@@ -1,6 +1,6 @@
 -- Read as JSON or LSA by LSA, a live file comes to what it comes to.
 use Rattle.std.proofs.Common.{◌≡◌, ℕ, List, [], Bool, true, false, cond, refl, sym, ◌∙◌, ap, subst, inl, inr, Result, Ok, Err}
-use Rattle.std.specs.Borrow.{Bor}
+use Rattle.std.specs.Prelude.{MatchResult}
 use Rattle.std.specs.Str.{is_utf8}
 use Rattle.std.specs.Str.Lossy.{utf8_valid_len}
 use Rattle.std.proofs.lemmas.Bool.{false≢true}
@@ -13,12 +13,10 @@ use Rattle.lsa_bytes.specs.Files.{ComesTo}
 use Rattle.live_reader.specs.declared.fault.LiveFault.{LiveFault}
 use Rattle.live_reader.specs.declared.fault.LiveFault.TheVariants.{BadJson}
 use Rattle.live_reader.specs.LiveFiles.{begins_object, said_by_json, as_live, JsonComesTo, ComesToAs, LiveComesTo, RefusesLive}
-use Rattle.live_reader.specs.FaultNumbers.{live_fault_number}
 use Rattle.live_reader.specs.Texts.{line_of_offset}
-use Rattle.input_files.specs.Readings.{Says, EndsAs}
-use Rattle.input_files.specs.Stops.{StopsAs, IsReadAndMade, refusal_stop}
+use Rattle.input_files.proofs.Parsed.{TellsPlace}
 use Rattle.live_input.specs.LsaFiles.{lsas_in}
-use Rattle.live_input.specs.LiveReadings.{json_in, live_in, if_live}
+use Rattle.live_input.specs.LiveReadings.{json_in, live_in}
 use Rattle.live_input.specs.Laws.{LsaFilesComeTo, LiveFilesComeTo}
 use Rattle.live_input.proofs.LsaFiles.{comes, lsas_are}
 
@@ -62,20 +60,10 @@ lsa_files bytes r = (λ h. lsas_are bytes r h, λ is. subst (λ (x : Result (Lis
 pub live_files : LiveFilesComeTo
 live_files area bytes r = (λ h. live_are area bytes r h, λ is. subst (λ (x : Outcome). LiveComesTo area bytes x) is (live_comes area bytes))
 
--- what was read of a live file's bytes
-pub live_ready : (file : List ℕ) (area : ℕ) (bytes : List ℕ) (lsas : List Lsa) → LiveComesTo area bytes (Ok lsas) →
-    IsReadAndMade (if_live file (live_in area bytes)) [] (λ made said. made ≡ said) lsas
-live_ready file area bytes lsas is =
-    record {
-      said = lsas;
-      ends = subst (λ (r : Outcome). EndsAs (if_live file r) [] (Says lsas)) (sym (live_are area bytes (Ok lsas) is)) refl;
-      fits = refl;
-    }
-
--- the stop of a live file that is refused
-pub live_stops : (file : Bor (List ℕ)) (area : ℕ) (bytes : List ℕ) (stop : Refusal LiveFault ℕ) → RefusesLive area bytes stop →
-    StopsAs (if_live file.now (live_in area bytes)) [] (refusal_stop live_fault_number stop file)
-live_stops file area bytes (Refused fault place) is =
-    subst (λ (r : Outcome). StopsAs (if_live file.now r) [] (refusal_stop live_fault_number (Refused fault place) file))
-    (sym (live_are area bytes (Err (fault, place)) is)) refl
-live_stops file area bytes OutOfMemory is = tt
+-- what was read of a live file's bytes, or refused
+pub live_told : (area : ℕ) (bytes : List ℕ) (parsed : Result (List Lsa) (Refusal LiveFault ℕ)) →
+    MatchResult parsed (λ lsas. LiveComesTo area bytes (Ok lsas)) (RefusesLive area bytes) →
+    MatchResult parsed (λ lsas. live_in area bytes ≡ Ok lsas) (TellsPlace (live_in area bytes))
+live_told area bytes (Ok lsas) is = live_are area bytes (Ok lsas) is
+live_told area bytes (Err (Refused fault place)) is = live_are area bytes (Err (fault, place)) is
+live_told area bytes (Err OutOfMemory) is = tt

@@ -1,23 +1,22 @@
 -- Read LSA by LSA, bytes come to what they come to.
 use Rattle.std.proofs.Common.{◌≡◌, ℕ, zero, suc, ◌+◌, ◌<◌, ◌≤◌, refl, sym, ◌∙◌, ap, subst, List, [], ◌∷◌, ◌++◌, length, take, drop, arith, Option, None, Some, Result, Ok, Err}
-use Rattle.std.specs.Borrow.{Bor}
+use Rattle.std.specs.Prelude.{MatchResult}
 use Rattle.std.proofs.lemmas.List.{length-drop}
 use Rattle.cost_base.specs.declared.refusal.Refusal.{Refusal}
 use Rattle.cost_base.specs.declared.refusal.Refusal.TheVariants.{Refused, OutOfMemory}
+use Rattle.cost_base.proofs.ListLemmas.{option_or-parts}
 use Rattle.lsa_bytes.specs.declared.fault.LsaFault.{LsaFault}
 use Rattle.lsa_bytes.specs.declared.Lsa.{Lsa}
 use Rattle.lsa_bytes.specs.declared.instances.Instance.{Instance}
-use Rattle.lsa_bytes.specs.Numbers.{lsa_fault_number}
 use Rattle.lsa_bytes.specs.Grammar.{length_of, said_at}
 use Rattle.lsa_bytes.specs.Faults.{length_fault, body_fault, form_fault}
 use Rattle.lsa_bytes.specs.Files.{ComesTo, Refuses, decided, instances_in}
 use Rattle.lsa_bytes.specs.Reading.{AreReadFrom}
-use Rattle.lsa_bytes.proofs.Lengths.{option_or-none, begins_whole}
+use Rattle.lsa_bytes.proofs.Lengths.{begins_whole}
 use Rattle.lsa_bytes.proofs.ReadSoFar.{IsUnderway, IsFirst, begin, next, all_read, broken_off}
 use Rattle.lsa_bytes.proofs.Pieces.{one_outcome}
-use Rattle.input_files.specs.Readings.{Says, EndsAs}
-use Rattle.input_files.specs.Stops.{StopsAs, IsReadAndMade, refusal_stop}
-use Rattle.live_input.specs.LsaFiles.{by_fault, lsas_behind, lsas_in, if_lsas}
+use Rattle.input_files.proofs.Parsed.{TellsPlace}
+use Rattle.live_input.specs.LsaFiles.{by_fault, lsas_behind, lsas_in}
 
 -- what instances and a fault behind them come to, the bytes come to
 comes_to : (bytes : List ℕ) (instances : List Instance) (behind : Option (LsaFault × ℕ)) → AreReadFrom bytes instances behind →
@@ -47,7 +46,7 @@ come_to (suc most) bytes (byte ∷ more) before offset so_far few at =
     (lsas_behind most (before ++ said_at offset (take (length_of rest) rest)) (offset + length_of rest)
     (drop (length_of rest) rest)) (form_fault rest) so_far (omega arith) at refl
     (λ none.
-    (let parts = option_or-none (length_fault rest) (body_fault (take (length_of rest) rest)) none in
+    (let parts = option_or-parts (length_fault rest) (body_fault (take (length_of rest) rest)) none in
     let begins = begins_whole rest parts.0 in
     let first : IsFirst rest (take (length_of rest) rest) (drop (length_of rest) rest) = record { lsa_is = refl; behind_is = refl; begins = begins } in
     come_to most bytes (drop (length_of rest) rest) (before ++ said_at offset (take (length_of rest) rest)) (offset + length_of rest)
@@ -63,22 +62,10 @@ comes bytes = come_to (length bytes) bytes bytes [] 0 (begin bytes [] refl) (ome
 pub lsas_are : (bytes : List ℕ) (r : Result (List Lsa) (LsaFault × ℕ)) → ComesTo bytes r → lsas_in bytes ≡ r
 lsas_are bytes r is = one_outcome bytes (lsas_in bytes) r (comes bytes) is
 
--- what was read of a file's bytes
-pub lsas_ready : (file bytes : List ℕ) (lsas : List Lsa) → ComesTo bytes (Ok lsas) → IsReadAndMade (if_lsas file (lsas_in bytes)) [] (λ made said. made ≡ said) lsas
-lsas_ready file bytes lsas is =
-    record {
-      said = lsas;
-      ends = subst
-          (λ (r : Result (List Lsa) (LsaFault × ℕ)). EndsAs (if_lsas file r) [] (Says lsas))
-          (sym (lsas_are bytes (Ok lsas) is)) refl;
-      fits = refl;
-    }
-
--- the stop of LSAs that are refused
-pub lsas_stop : (file : Bor (List ℕ)) (bytes : List ℕ) (stop : Refusal LsaFault ℕ) → Refuses bytes stop →
-    StopsAs (if_lsas file.now (lsas_in bytes)) [] (refusal_stop lsa_fault_number stop file)
-lsas_stop file bytes (Refused fault offset) is =
-    subst (λ (r : Result (List Lsa) (LsaFault × ℕ)).
-    StopsAs (if_lsas file.now r) [] (refusal_stop lsa_fault_number (Refused fault offset) file))
-    (sym (lsas_are bytes (Err (fault, offset)) is)) refl
-lsas_stop file bytes OutOfMemory is = tt
+-- what was read of a file's bytes, or refused
+pub lsas_told : (bytes : List ℕ) (parsed : Result (List Lsa) (Refusal LsaFault ℕ)) →
+    MatchResult parsed (λ lsas. ComesTo bytes (Ok lsas)) (Refuses bytes) →
+    MatchResult parsed (λ lsas. lsas_in bytes ≡ Ok lsas) (TellsPlace (lsas_in bytes))
+lsas_told bytes (Ok lsas) is = lsas_are bytes (Ok lsas) is
+lsas_told bytes (Err (Refused fault offset)) is = lsas_are bytes (Err (fault, offset)) is
+lsas_told bytes (Err OutOfMemory) is = tt

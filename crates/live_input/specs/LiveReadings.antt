@@ -1,5 +1,5 @@
 -- What a live file says of an area, read after its size.
-use Rattle.std.specs.Prelude.{ℕ, List, Result, Ok, Err, if◌then◌else◌}
+use Rattle.std.specs.Prelude.{ℕ, List, Result, Err, if◌then◌else◌}
 use Rattle.std.specs.Str.{is_utf8}
 use Rattle.std.specs.Str.Lossy.{utf8_valid_len}
 use Rattle.lsa_bytes.specs.declared.Lsa.{Lsa}
@@ -8,7 +8,7 @@ use Rattle.live_reader.specs.declared.fault.LiveFault.TheVariants.{BadJson}
 use Rattle.live_reader.specs.FaultNumbers.{live_fault_number}
 use Rattle.live_reader.specs.LiveFiles.{begins_object, said_by_json, as_live}
 use Rattle.live_reader.specs.Texts.{line_of_offset}
-use Rattle.input_files.specs.Readings.{Reading, Refused, Ready, ◌>>=◌}
+use Rattle.input_files.specs.Readings.{Reading, ◌>>=◌, or_refused, place_refused}
 use Rattle.input_files.specs.Outcomes.{file_read}
 use Rattle.live_input.specs.LsaFiles.{longest_database, lsas_in}
 
@@ -20,11 +20,7 @@ json_in area bytes = if is_utf8 bytes then said_by_json area bytes else Err (Bad
 abbrev pub live_in : ℕ → List ℕ → Result (List Lsa) (LiveFault × ℕ)
 live_in area bytes = if begins_object bytes then json_in area bytes else as_live (lsas_in bytes)
 
--- a fault is written with its place, a line of JSON or an offset in LSA bytes
-abbrev pub if_live : List ℕ → Result (List Lsa) (LiveFault × ℕ) → Reading (List Lsa)
-if_live file (Ok lsas) = Ready lsas
-if_live file (Err fault) = Refused (record { number = live_fault_number fault.0; file = file; line = fault.1 })
-
--- a live file: its size, and then the LSAs of an area up to the first fault
+-- a live file: its size, and then the LSAs of an area up to the first fault, whose place is a line of JSON or an offset
+-- in LSA bytes
 abbrev pub live_read : List ℕ → ℕ → Reading (List Lsa)
-live_read file area = file_read longest_database file >>= λ bytes. if_live file (live_in area bytes)
+live_read file area = file_read longest_database file >>= λ bytes. or_refused (place_refused live_fault_number file) (live_in area bytes)

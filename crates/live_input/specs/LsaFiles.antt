@@ -1,6 +1,6 @@
 -- What a file of LSAs says, read LSA by LSA.
-use Rattle.std.specs.Prelude.{ℕ, zero, suc, ◌+◌, List, [], ◌∷◌, ◌++◌, length, take, drop, Option, Some, None, Result, Ok, Err}
-use Rattle.input_files.specs.Readings.{Reading, Refused, Ready, ◌>>=◌}
+use Rattle.std.specs.Prelude.{ℕ, zero, suc, ◌+◌, List, [], ◌∷◌, ◌++◌, length, take, drop, Option, Some, None, Result}
+use Rattle.input_files.specs.Readings.{Reading, ◌>>=◌, or_refused, place_refused}
 use Rattle.input_files.specs.Outcomes.{file_read}
 use Rattle.lsa_bytes.specs.declared.fault.LsaFault.{LsaFault}
 use Rattle.lsa_bytes.specs.declared.Lsa.{Lsa}
@@ -32,11 +32,6 @@ lsas_behind (suc most) before offset (byte ∷ bytes) =
 abbrev pub lsas_in : List ℕ → Result (List Lsa) (LsaFault × ℕ)
 lsas_in bytes = lsas_behind (length bytes) [] 0 bytes
 
--- a fault is written with its offset in place of a line
-abbrev pub if_lsas : List ℕ → Result (List Lsa) (LsaFault × ℕ) → Reading (List Lsa)
-if_lsas file (Ok lsas) = Ready lsas
-if_lsas file (Err fault) = Refused (record { number = lsa_fault_number fault.0; file = file; line = fault.1 })
-
--- a file of LSAs: its size, and then its LSAs up to the first fault
+-- a file of LSAs: its size, and then its LSAs up to the first fault, whose offset stands for a line
 abbrev pub lsas_read : List ℕ → Reading (List Lsa)
-lsas_read file = file_read longest_database file >>= λ bytes. if_lsas file (lsas_in bytes)
+lsas_read file = file_read longest_database file >>= λ bytes. or_refused (place_refused lsa_fault_number file) (lsas_in bytes)

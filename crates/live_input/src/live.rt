@@ -6,9 +6,9 @@ ghost use Rattle.live_input.specs.LiveReadings.{live_read};
 
 use crate::LONGEST_DATABASE;
 use cost_base::Shelf;
-use input_files::{Stop, read_file, stop_of};
+use input_files::{Stop, read_file, said_or_stop};
 use live_reader::read_live;
-use lsa_bytes::Database;
+use lsa_bytes::LsaDatabase;
 use std::alloc::Global;
 
 /// The LSAs of an area that count, as a live file says them: JSON as FRRouting prints it, or LSA bytes.
@@ -22,13 +22,10 @@ pub fn read_live_file<'a, S: Shelf>(
     shelf: &mut S,
     name: &'a str,
     area: u32,
-) -> Result<Database, Stop<'a>>
+) -> Result<LsaDatabase, Stop<'a>>
     ensures { Gave (S.gave shelf.old shelf.new) (λ came. IsReadAs (live_read name.now area) came
         (λ database lsas. database ≡ lsas) result) }
 {
     let bytes = read_file(alloc, shelf, name, LONGEST_DATABASE)?;
-    match read_live(alloc, &bytes, area) {
-        Ok(database) => Ok(database),
-        Err(refusal) => Err(stop_of(refusal, name)),
-    }
+    said_or_stop(read_live(alloc, &bytes, area), name)
 }

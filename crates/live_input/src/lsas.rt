@@ -6,8 +6,8 @@ ghost use Rattle.live_input.specs.LsaFiles.{lsas_read};
 
 use crate::LONGEST_DATABASE;
 use cost_base::Shelf;
-use input_files::{Stop, read_file, stop_of};
-use lsa_bytes::{Database, read_lsas};
+use input_files::{Stop, read_file, said_or_stop};
+use lsa_bytes::{LsaDatabase, read_lsas};
 use std::alloc::Global;
 
 /// The LSAs of a file.
@@ -19,13 +19,10 @@ pub fn read_database<'a, S: Shelf>(
     alloc: Global,
     shelf: &mut S,
     name: &'a str,
-) -> Result<Database, Stop<'a>>
+) -> Result<LsaDatabase, Stop<'a>>
     ensures { Gave (S.gave shelf.old shelf.new) (λ came. IsReadAs (lsas_read name.now) came
         (λ database lsas. database ≡ lsas) result) }
 {
     let bytes = read_file(alloc, shelf, name, LONGEST_DATABASE)?;
-    match read_lsas(alloc, &bytes) {
-        Ok(database) => Ok(database),
-        Err(refusal) => Err(stop_of(refusal, name)),
-    }
+    said_or_stop(read_lsas(alloc, &bytes), name)
 }

@@ -10,6 +10,7 @@ use Rattle.json.specs.Tree.{json_tokens, members_tokens}
 use Rattle.live_reader.specs.Places.{Stands, Member, members_at, object_members, last_where, member_named}
 use Rattle.live_reader.specs.Fields.{hex_digit, hex_behind}
 use Rattle.std.specs.List.{list_all}
+use Rattle.std.proofs.lemmas.Option.{same_Some}
 use Rattle.live_reader.specs.Walks.{StandsIf}
 use Rattle.live_reader.specs.JsonLsas.{inner, is_quad, names_area, area_member}
 use Rattle.live_reader.proofs.WalkLaws.{member_value, member_rest, object_inside}
@@ -22,7 +23,8 @@ abbrev IfThere : List Token → Option Member → Type 0
 IfThere all None = Unit {0}
 IfThere all (Some m) = Stands all m.place m.value
 
-if_passes : (all : List Token) (b : Bool) (m : Member) (o : Option Member) → IfThere all o → Stands all m.place m.value → IfThere all (option_or o (cond b (Some m) None))
+if_passes : (all : List Token) (b : Bool) (m : Member) (o : Option Member) → IfThere all o → Stands all m.place m.value →
+    IfThere all (option_or o (cond b (Some m) None))
 if_passes all true m None later stands = stands
 if_passes all false m None later stands = tt
 if_passes all b m (Some x) later stands = later
@@ -52,7 +54,8 @@ some_or d None = d
 some_or d (Some n) = n
 
 pick : {X : Type 0} → (all : List Token) (place : ℕ) (result : Option X) (read : ℕ → Json → Option X) (o : Option Member) → IfThere all o →
-    Some place ≡ option_map (λ m. m.place) o → ((j : Json) → Stands all place j → result ≡ read place j) → result ≡ option_and_then (λ m. read m.place m.value) o
+    Some place ≡ option_map (λ m. m.place) o → ((j : Json) → Stands all place j → result ≡ read place j) →
+    result ≡ option_and_then (λ m. read m.place m.value) o
 pick all place result read None there e says = absurd (subst IsThere e tt)
 pick all place result read (Some m) there e says =
     let same : place ≡ m.place = ap (some_or place) e in
@@ -64,19 +67,13 @@ over f g None = refl
 over f g (Some ms) = refl
 
 -- what is read of the value of a name is what the name says
-pub read_named : {X : Type 0} → (all : List Token) (name : List ℕ) (place at : ℕ) (j : Json) (result : Option X) (read : ℕ → Json → Option X) → Stands all place j →
+pub read_named : {X : Type 0} → (all : List Token) (name : List ℕ) (place at : ℕ) (j : Json) (result : Option X) (read : ℕ → Json → Option X) →
+    Stands all place j →
     Some at ≡ option_map (λ m. m.place) (option_and_then (member_named name) (object_members place j)) → ((v : Json) → Stands all at v → result ≡ read at v) →
     result ≡ option_and_then (λ ms. option_and_then (λ m. read m.place m.value) (member_named name ms)) (object_members place j)
 read_named all name place at j result read stands e says =
     pick all at result read (option_and_then (member_named name) (object_members place j)) (named_stands all _ place j stands) e says
     ∙ over (member_named name) (λ m. read m.place m.value) (object_members place j)
-
-some_is : {X : Type 0} (a b : X) → Some a ≡ Some b → a ≡ b
-some_is {X} a b e = ap (or_else a) e
-  where
-    or_else : X → Option X → X
-    or_else d None = d
-    or_else d (Some x) = x
 
 -- ---- objects inside
 
@@ -86,7 +83,8 @@ pub first_inner : (name : List ℕ) (o : Option (List Member)) →
 first_inner name None = refl
 first_inner name (Some ms) = by_name (member_named name ms)
   where
-    by_value : (place : ℕ) (o : Option (List Member)) → option_map (λ inside. place) o ≡ option_map (λ (found : ℕ × List Member). found.0) (option_map (λ inside. (place, inside)) o)
+    by_value : (place : ℕ) (o : Option (List Member)) → option_map (λ inside. place) o ≡
+        option_map (λ (found : ℕ × List Member). found.0) (option_map (λ inside. (place, inside)) o)
     by_value place None = refl
     by_value place (Some inside) = refl
 
@@ -102,13 +100,16 @@ pub record IsInner (all : List Token) (place : ℕ) (found : Option (ℕ × List
   pub is : found ≡ Some (place, members_at (place + 1) members)
 
 pub inner_there : (all : List Token) (name : List ℕ) (place at : ℕ) (j : Json) → Stands all place j →
-    Some at ≡ option_map (λ (found : ℕ × List Member). found.0) (option_and_then (inner name) (object_members place j)) → IsInner all at (option_and_then (inner name) (object_members place j))
+    Some at ≡ option_map (λ (found : ℕ × List Member). found.0) (option_and_then (inner name) (object_members place j)) →
+    IsInner all at (option_and_then (inner name) (object_members place j))
 inner_there all name place at j stands e =
     subst (IsInner all at) (over (member_named name) (λ m. option_map (λ inside. (m.place, inside)) (object_members m.place m.value)) (object_members place j))
     (by_member (option_and_then (member_named name) (object_members place j)) (named_stands all _ place j stands)
-    (e ∙ sym (ap (option_map (λ (found : ℕ × List Member). found.0)) (over (member_named name) (λ m. option_map (λ inside. (m.place, inside)) (object_members m.place m.value)) (object_members place j)))))
+    (e ∙ sym (ap (option_map (λ (found : ℕ × List Member). found.0)) (over (member_named name)
+    (λ m. option_map (λ inside. (m.place, inside)) (object_members m.place m.value)) (object_members place j)))))
   where
-    by_value : (m : Member) (v : Json) → Stands all m.place v → Some at ≡ option_map (λ (found : ℕ × List Member). found.0) (option_map (λ inside. (m.place, inside)) (object_members m.place v)) →
+    by_value : (m : Member) (v : Json) → Stands all m.place v → Some at ≡
+        option_map (λ (found : ℕ × List Member). found.0) (option_map (λ inside. (m.place, inside)) (object_members m.place v)) →
         IsInner all at (option_map (λ inside. (m.place, inside)) (object_members m.place v))
     by_value m null s f = absurd (subst IsThere f tt)
     by_value m (boolean b) s f = absurd (subst IsThere f tt)
@@ -124,7 +125,8 @@ inner_there all name place at j stands e =
         }
 
     by_member : (o : Option Member) → IfThere all o →
-        Some at ≡ option_map (λ (found : ℕ × List Member). found.0) (option_and_then (λ m. option_map (λ inside. (m.place, inside)) (object_members m.place m.value)) o) →
+        Some at ≡ option_map (λ (found : ℕ × List Member). found.0) (option_and_then (λ m. option_map (λ inside. (m.place, inside))
+        (object_members m.place m.value)) o) →
         IsInner all at (option_and_then (λ m. option_map (λ inside. (m.place, inside)) (object_members m.place m.value)) o)
     by_member None there f = absurd (subst IsThere f tt)
     by_member (Some m) there f = by_value m m.value there f
@@ -169,11 +171,16 @@ pub area_there : (all : List Token) (area place : ℕ) (found : Option ℕ) (ms 
 area_there all area place found ms None stands is e = absurd (subst IsThere e tt)
 area_there all area place found ms (Some m) stands is e =
     let inside = object_inside all place ms stands in
-    let last : last_where (names_area area) (members_at (place + 1) ms) ≡ m = the_same (list_all is_quad (members_at (place + 1) ms)) is in
-    (m, by_member m (subst (IfThere all) last (last_stands all (names_area area) (place + 1) ms inside.0 inside.1)) (some_is found (option_map (λ (m : Member). m.place) m) e), is)
+    let last : last_where (names_area area) (members_at (place + 1) ms) ≡ m = the_same (list_all is_quad (members_at (place + 1) ms)) is in (
+      m,
+      by_member m (subst (IfThere all) last (last_stands all (names_area area) (place + 1) ms inside.0 inside.1))
+          (same_Some found (option_map (λ (m : Member). m.place) m) e),
+      is,
+    )
   where
-    the_same : (b : Bool) → cond b (Some (last_where (names_area area) (members_at (place + 1) ms))) None ≡ Some m → last_where (names_area area) (members_at (place + 1) ms) ≡ m
-    the_same true f = some_is _ _ f
+    the_same : (b : Bool) → cond b (Some (last_where (names_area area) (members_at (place + 1) ms))) None ≡ Some m →
+        last_where (names_area area) (members_at (place + 1) ms) ≡ m
+    the_same true f = same_Some _ _ f
     the_same false f = absurd (subst IsThere (sym f) tt)
 
     by_member : (o : Option Member) → IfThere all o → found ≡ option_map (λ (m : Member). m.place) o → StandsIf all found o

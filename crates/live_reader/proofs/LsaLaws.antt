@@ -30,7 +30,8 @@ lsa_headless around place j members is headed =
     ∙ ap (λ o. lsa_with place o (inner (codes "routerLinks") members)) (sym (headed ∙ ap (option_and_then head_of) is))
 
 -- what a stop tells of the links it tells of the LSA
-pub lsa_tells : (place : ℕ) (head : Head) (links : Result (List LsaLink) ℕ) (stop : Refusal Lack ℕ) → TellsLack links stop → TellsLack (with_links place head links) stop
+pub lsa_tells : (place : ℕ) (head : Head) (links : Result (List LsaLink) ℕ) (stop : Refusal Lack ℕ) → TellsLack links stop →
+    TellsLack (with_links place head links) stop
 lsa_tells place head links (Refused lack lacking) tells = ap (with_links place head) tells
 lsa_tells place head links OutOfMemory tells = tt
 

@@ -16,7 +16,8 @@ last_where-push test [] m = refl
 last_where-push test (x ∷ xs) m =
     ap (λ o. option_or o (cond (test x) (Some x) None)) (last_where-push test xs m) ∙ either (test m) m (last_where test xs) (cond (test x) (Some x) None)
 
-pub last_place-here : (test : Member → Bool) (xs : List Member) (m : Member) → test m ≡ true → Some m.place ≡ option_map (λ x. x.place) (last_where test (xs ++ m ∷ []))
+pub last_place-here : (test : Member → Bool) (xs : List Member) (m : Member) → test m ≡ true →
+    Some m.place ≡ option_map (λ x. x.place) (last_where test (xs ++ m ∷ []))
 last_place-here test xs m e = sym (ap (option_map (λ x. x.place)) (last_where-push test xs m ∙ ap (λ b. cond b (Some m) (last_where test xs)) e))
 
 pub last_place-before : (test : Member → Bool) (xs : List Member) (m : Member) (found : Option ℕ) → test m ≡ false →
@@ -33,7 +34,8 @@ some_or d None = d
 some_or d (Some n) = n
 
 -- where a first member is found, an object stands
-pub object_there : (place n : ℕ) (j : Json) → Some n ≡ option_map (λ ms. place + 1) (object_members place j) → (ms : Members) × (j ≡ object ms) × (n ≡ place + 1)
+pub object_there : (place n : ℕ) (j : Json) → Some n ≡ option_map (λ ms. place + 1) (object_members place j) →
+    (ms : Members) × (j ≡ object ms) × (n ≡ place + 1)
 object_there place n null e = absurd (subst IsThere e tt)
 object_there place n (boolean b) e = absurd (subst IsThere e tt)
 object_there place n (number s) e = absurd (subst IsThere e tt)
@@ -65,7 +67,8 @@ pub never_none : (n : ℕ) → None ≡ Some n → ⊥
 never_none n e = subst IsThere (sym e) tt
 
 -- where an object opens
-pub opened_object : (place : ℕ) (j : Json) → opens_object (first_token j) ≡ true → (ms : Members) × (j ≡ object ms) × (object_members place j ≡ Some (members_at (place + 1) ms))
+pub opened_object : (place : ℕ) (j : Json) → opens_object (first_token j) ≡ true →
+    (ms : Members) × (j ≡ object ms) × (object_members place j ≡ Some (members_at (place + 1) ms))
 opened_object place null e = absurd (subst T (sym e) tt)
 opened_object place (boolean b) e = absurd (subst T (sym e) tt)
 opened_object place (number s) e = absurd (subst T (sym e) tt)
@@ -83,7 +86,8 @@ unopened_object place (array js) e = refl
 unopened_object place (object ms) e = absurd (subst T e tt)
 
 -- where an array opens
-pub opened_array : (place : ℕ) (j : Json) → opens_array (first_token j) ≡ true → (js : Items) × (j ≡ array js) × (items_of place j ≡ Some (items_at (place + 1) js))
+pub opened_array : (place : ℕ) (j : Json) → opens_array (first_token j) ≡ true →
+    (js : Items) × (j ≡ array js) × (items_of place j ≡ Some (items_at (place + 1) js))
 opened_array place null e = absurd (subst T (sym e) tt)
 opened_array place (boolean b) e = absurd (subst T (sym e) tt)
 opened_array place (number s) e = absurd (subst T (sym e) tt)

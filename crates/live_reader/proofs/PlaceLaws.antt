@@ -2,13 +2,14 @@
 use Rattle.std.proofs.Common.{◌≡◌, ℕ, ◌+◌, ◌-◌, ◌<◌, ◌≤◌, List, [], ◌∷◌, ◌++◌, Bool, true, false, cond, length, drop, get_or, Option, Some, None, refl, sym, ap, ◌∙◌, subst, arith, ◌||◌, ◌&&◌}
 use Rattle.std.specs.Prelude.{reverse, is_some}
 use Rattle.std.specs.List.{list_any, list_all}
-use Rattle.std.proofs.lemmas.List.{drop_more, reverse-append, drop_all}
+use Rattle.std.proofs.lemmas.List.{reverse-append, drop_all}
 use Rattle.cost_base.specs.Lists.{same_bytes}
 use Rattle.cost_base.proofs.ByteLemmas.{same_bytes-true}
 use Rattle.text_lines.specs.Numbers.{quad}
 use Rattle.json.specs.Token.{Token}
 use Rattle.json.specs.Json.{Json, Members, no_members, member}
 use Rattle.json.specs.Tree.{json_tokens, members_tokens}
+use Rattle.cost_base.proofs.ListLemmas.{drop_read}
 use Rattle.live_reader.specs.declared.tree.Step.{Step}
 use Rattle.live_reader.specs.Places.{Stands, Placed, Member, members_at, last_where, those_last, member_values}
 use Rattle.live_reader.specs.Walks.{IsStep, HaveSeen, StepOver, StandAt, last_places}
@@ -39,7 +40,8 @@ stand_if all true place m places more same stands rest = rest
 stand_if all false place m places more same stands rest = (same, stands, rest)
 
 -- the places of those that are the last of their names
-pub last_stand : (all : List Token) (steps : List Step) (members : List Member) → StepOver all steps members → StandAt all (last_places steps) (member_values (those_last members))
+pub last_stand : (all : List Token) (steps : List Step) (members : List Member) → StepOver all steps members →
+    StandAt all (last_places steps) (member_values (those_last members))
 last_stand all [] [] over = tt
 last_stand all (s ∷ steps) (m ∷ members) over =
     subst (λ b. StandAt all (cond b (last_places steps) (s.place ∷ last_places steps)) (member_values (those_last (m ∷ members))))
@@ -83,29 +85,29 @@ any_more p (y ∷ xs) x = ap (λ b. p y || b) (any_more p xs x) ∙ swapped (p y
     swapped false true c = refl
     swapped false false c = refl
 
-at_left : (steps : List Step) (left : ℕ) (step : Step) → left < length steps → step ≡ get_or steps left step → drop left steps ≡ step ∷ drop (left + 1) steps
-at_left steps left step within is = drop_more steps left step within ∙ ap (λ (s : Step). s ∷ drop (left + 1) steps) (sym is)
-
 -- a step whose name comes later is left out
 pub left_out : (steps : List Step) (left : ℕ) (step : Step) (names : List (List ℕ)) (places : List ℕ) → 0 < left → AreGathered steps left names places →
     step ≡ get_or steps (left - 1) step → list_any (same_bytes step.name.now) names ≡ true → AreGathered steps (left - 1) names places
 left_out steps left step names places some are is there =
     let behind : left - 1 + 1 ≡ left = omega arith in
     let front : drop (left - 1) steps ≡ step ∷ drop left steps =
-    at_left steps (left - 1) step (omega (arith, are.within)) is ∙ ap (λ n. step ∷ drop n steps) behind in
+    drop_read steps (left - 1) step (omega (arith, are.within)) is ∙ ap (λ n. step ∷ drop n steps) behind in
     let here : list_any (λ (later : Step). same_bytes step.name.now later.name.now) (drop left steps) ≡ true = sym (are.names_are step.name.now) ∙ there in
     record {
       within = omega (arith, are.within);
       names_are = λ name. are.names_are name ∙ known name here ∙ sym (ap (list_any (λ (later : Step). same_bytes name later.name.now)) front);
-      places_are = are.places_are ∙ sym (ap (λ l. reverse (last_places l)) front ∙ ap (λ b. reverse (cond b (last_places (drop left steps)) (step.place ∷ last_places (drop left steps)))) here);
+      places_are = are.places_are ∙ sym (ap (λ l. reverse (last_places l)) front ∙
+          ap (λ b. reverse (cond b (last_places (drop left steps)) (step.place ∷ last_places (drop left steps)))) here);
     }
   where
     known : (name : List ℕ) → list_any (λ (later : Step). same_bytes step.name.now later.name.now) (drop left steps) ≡ true →
-        list_any (λ (later : Step). same_bytes name later.name.now) (drop left steps) ≡ list_any (λ (later : Step). same_bytes name later.name.now) (step ∷ drop left steps)
+        list_any (λ (later : Step). same_bytes name later.name.now) (drop left steps) ≡
+        list_any (λ (later : Step). same_bytes name later.name.now) (step ∷ drop left steps)
     known name here = by_test (same_bytes name step.name.now) refl
       where
         by_test : (b : Bool) → same_bytes name step.name.now ≡ b →
-            list_any (λ (later : Step). same_bytes name later.name.now) (drop left steps) ≡ (same_bytes name step.name.now || list_any (λ (later : Step). same_bytes name later.name.now) (drop left steps))
+            list_any (λ (later : Step). same_bytes name later.name.now) (drop left steps) ≡
+            (same_bytes name step.name.now || list_any (λ (later : Step). same_bytes name later.name.now) (drop left steps))
         by_test true e =
             ap (λ n. list_any (λ (later : Step). same_bytes n later.name.now) (drop left steps)) (same_bytes-true name step.name.now e) ∙ here
             ∙ sym (ap (λ b. b || list_any (λ (later : Step). same_bytes name later.name.now) (drop left steps)) e)
@@ -118,7 +120,7 @@ pub kept : (steps : List Step) (left : ℕ) (step : Step) (names more : List (Li
 kept steps left step names more places some are is new added =
     let behind : left - 1 + 1 ≡ left = omega arith in
     let front : drop (left - 1) steps ≡ step ∷ drop left steps =
-    at_left steps (left - 1) step (omega (arith, are.within)) is ∙ ap (λ n. step ∷ drop n steps) behind in
+    drop_read steps (left - 1) step (omega (arith, are.within)) is ∙ ap (λ n. step ∷ drop n steps) behind in
     let here : list_any (λ (later : Step). same_bytes step.name.now later.name.now) (drop left steps) ≡ false = sym (are.names_are step.name.now) ∙ new in
     record {
       within = omega (arith, are.within);
@@ -126,7 +128,8 @@ kept steps left step names more places some are is new added =
           ∙ ap (λ b. same_bytes name step.name.now || b) (are.names_are name)
           ∙ sym (ap (list_any (λ (later : Step). same_bytes name later.name.now)) front);
       places_are = ap (λ l. l ++ step.place ∷ []) are.places_are ∙ sym (in_front step.place (last_places (drop left steps)))
-          ∙ sym (ap (λ l. reverse (last_places l)) front ∙ ap (λ b. reverse (cond b (last_places (drop left steps)) (step.place ∷ last_places (drop left steps)))) here);
+          ∙ sym (ap (λ l. reverse (last_places l)) front ∙ ap (λ b. reverse (cond b (last_places (drop left steps))
+          (step.place ∷ last_places (drop left steps)))) here);
     }
 
 pub emptied : (n : ℕ) → (n ≤ 0) → n ≡ 0
@@ -181,8 +184,10 @@ pub walk_breaks_area : (all : List Token) (area start next : ℕ) (ms : Members)
     area_member area (members_at start ms) ≡ None
 walk_breaks_area all area start next ms step Held w is e = by_rest w.rest w.whole (is w.rest w.more w.left)
   where
-    by_rest : (rest : Members) → members_at start ms ≡ w.seen ++ members_at next rest → IsStep next rest (Some step) → area_member area (members_at start ms) ≡ None
+    by_rest : (rest : Members) → members_at start ms ≡ w.seen ++ members_at next rest → IsStep next rest (Some step) →
+        area_member area (members_at start ms) ≡ None
     by_rest no_members whole s = absurd (some_is_none step s)
     by_rest (member name j rest) whole s =
-        no_area area (members_at start ms) w.seen (members_at (next + 1 + length (json_tokens j)) rest) (record { name = name; place = next + 1; value = j }) whole
+        no_area area (members_at start ms) w.seen (members_at (next + 1 + length (json_tokens j)) rest) (record { name = name; place = next + 1; value = j })
+        whole
         (ap quad (sym s.0) ∙ e)

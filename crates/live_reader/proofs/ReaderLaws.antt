@@ -26,7 +26,8 @@ use Rattle.live_reader.proofs.SizeLaws.{live_small, types_of}
 
 -- ---- the first byte
 
-pub blank_first : (bytes : List ℕ) (i : ℕ) → i < length bytes → is_space (get_or bytes i 0) ≡ true → begins_object (drop i bytes) ≡ begins_object (drop (i + 1) bytes)
+pub blank_first : (bytes : List ℕ) (i : ℕ) → i < length bytes → is_space (get_or bytes i 0) ≡ true →
+    begins_object (drop i bytes) ≡ begins_object (drop (i + 1) bytes)
 blank_first bytes i within is =
     ap begins_object (drop_more bytes i 0 within) ∙ ap (λ b. cond b (begins_object (drop (i + 1) bytes)) (get_or bytes i 0 == 123)) is
 
@@ -81,6 +82,7 @@ text_small text tape area lsas short same some begun says =
     small_value tape area lsas 4294967294 (document text) some begun says (omega (arith, ap length same, tokens_few text, short))
 
 -- what a stop tells of LSAs it tells of the text
-pub lack_tells : (text : List ℕ) (said : Result (List Instance) ℕ) (stop : Refusal Lack ℕ) → TellsLack said stop → TellsSaid (read_in text said) (lacking_in text stop)
+pub lack_tells : (text : List ℕ) (said : Result (List Instance) ℕ) (stop : Refusal Lack ℕ) → TellsLack said stop →
+    TellsSaid (read_in text said) (lacking_in text stop)
 lack_tells text said (Refused lack place) tells = ap (read_in text) tells
 lack_tells text said OutOfMemory tells = tt

@@ -46,7 +46,8 @@ module _ (p : Parse Json) (spells : (ts : List Token) → Spells json_tokens ts 
     where
       behind : (r : Option (Members × List Token)) → Spells members_tokens q.1 r → Spells members_tokens ts (parse_map (member name q.0) r)
       behind None f = tt
-      behind (Some x) f = is ∙ ap (λ l. Token.key name ∷ l) (e ∙ ap (λ l. json_tokens q.0 ++ l) f ∙ sym (append_assoc (json_tokens q.0) (members_tokens x.0) x.1))
+      behind (Some x) f = is ∙ ap (λ l. Token.key name ∷ l) (e ∙ ap (λ l. json_tokens q.0 ++ l) f ∙
+          sym (append_assoc (json_tokens q.0) (members_tokens x.0) x.1))
 
   member_turn : (more : Parse Members) (ts : List Token) (o : Option (Option (List ℕ) × List Token)) →
       ((rest : List Token) → Spells members_tokens rest (more rest)) → read_key ts ≡ o →
@@ -64,7 +65,8 @@ opened_items : (ts : List Token) (o : Option (Items × List Token)) → Spells i
 opened_items ts None e = tt
 opened_items ts (Some x) e = ap (λ l. Token.begin_array ∷ l) e
 
-opened_members : (ts : List Token) (o : Option (Members × List Token)) → Spells members_tokens ts o → Spells json_tokens (Token.begin_object ∷ ts) (parse_map object o)
+opened_members : (ts : List Token) (o : Option (Members × List Token)) → Spells members_tokens ts o →
+    Spells json_tokens (Token.begin_object ∷ ts) (parse_map object o)
 opened_members ts None e = tt
 opened_members ts (Some x) e = ap (λ l. Token.begin_object ∷ l) e
 

@@ -7,7 +7,8 @@ use Rattle.live_reader.specs.declared.text.Within.{Within}
 use Rattle.live_reader.specs.Texts.{begins_token, behind, start_step, token_start}
 
 at_byte : (text : List ℕ) (offset n : ℕ) (within : Within) → offset < length text →
-    token_start within n (drop offset text) ≡ start_step (begins_token within (get_or text offset 0)) n (λ m. token_start (behind within (get_or text offset 0)) m (drop (offset + 1) text))
+    token_start within n (drop offset text) ≡ start_step (begins_token within (get_or text offset 0)) n
+    (λ m. token_start (behind within (get_or text offset 0)) m (drop (offset + 1) text))
 at_byte text offset n within inside = ap (token_start within n) (drop_more text offset 0 inside)
 
 -- the token that was looked for begins here
@@ -43,7 +44,8 @@ no_start text offset n within inside begins =
 
 -- ---- how many tokens a text has
 
-lex_byte_few : (m : Mode) (c : Class) (x : ℕ) (xs : List ℕ) (k : Mode → List Lexeme) (n : ℕ) → ((next : Mode) → length (k next) ≤ n) → length (lex_byte m c x xs k) ≤ suc n
+lex_byte_few : (m : Mode) (c : Class) (x : ℕ) (xs : List ℕ) (k : Mode → List Lexeme) (n : ℕ) → ((next : Mode) → length (k next) ≤ n) →
+    length (lex_byte m c x xs k) ≤ suc n
 lex_byte_few between quote x xs k n few = omega (arith, few in_string)
 lex_byte_few between backslash x xs k n few = omega (arith, few in_word)
 lex_byte_few between operator x xs k n few = omega (arith, few between)
@@ -90,8 +92,10 @@ punctuated_few after_value [] = omega arith
 punctuated_few after_comma [] = omega arith
 punctuated_few after_key [] = omega arith
 punctuated_few fresh (token t ∷ ls) = token_few fresh t (begins_colon ls) (λ next. punctuate next ls) (suc (length ls)) (λ next. punctuated_few next ls)
-punctuated_few after_value (token t ∷ ls) = token_few after_value t (begins_colon ls) (λ next. punctuate next ls) (suc (length ls)) (λ next. punctuated_few next ls)
-punctuated_few after_comma (token t ∷ ls) = token_few after_comma t (begins_colon ls) (λ next. punctuate next ls) (suc (length ls)) (λ next. punctuated_few next ls)
+punctuated_few after_value (token t ∷ ls) = token_few after_value t (begins_colon ls) (λ next. punctuate next ls) (suc (length ls))
+    (λ next. punctuated_few next ls)
+punctuated_few after_comma (token t ∷ ls) = token_few after_comma t (begins_colon ls) (λ next. punctuate next ls) (suc (length ls))
+    (λ next. punctuated_few next ls)
 punctuated_few after_key (token t ∷ ls) = token_few after_key t (begins_colon ls) (λ next. punctuate next ls) (suc (length ls)) (λ next. punctuated_few next ls)
 punctuated_few fresh (comma ∷ ls) = omega arith
 punctuated_few after_value (comma ∷ ls) = omega (arith, punctuated_few after_comma ls)

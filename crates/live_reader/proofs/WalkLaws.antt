@@ -58,7 +58,8 @@ some_members no_members = omega arith
 some_members (member name j ms) = omega arith
 
 -- where fewer than two tokens are left there is no member
-pub no_step : (all : List Token) (place : ℕ) (ms : Members) (more : List Token) → length all < place + 2 → drop place all ≡ members_tokens ms ++ more → IsStep place ms None
+pub no_step : (all : List Token) (place : ℕ) (ms : Members) (more : List Token) → length all < place + 2 → drop place all ≡ members_tokens ms ++ more →
+    IsStep place ms None
 no_step all place no_members more short e = refl
 no_step all place (member name j ms) more short e =
     let whole = ap length e in
@@ -133,7 +134,8 @@ first_node nodes all place j same stands =
     ap (first_is Token.null) (sym here ∙ stands.1) ∙ first_of_value j stands.0
 
 -- no value stands past the last token
-pub past : {P : Type 0} (nodes : List Node) (all : List Token) (place : ℕ) (j : Json) → map node_token nodes ≡ all → length nodes ≤ place → Stands all place j → P
+pub past : {P : Type 0} (nodes : List Node) (all : List Token) (place : ℕ) (j : Json) → map node_token nodes ≡ all → length nodes ≤ place → Stands all place j →
+    P
 past nodes all place j same long stands =
     absurd (omega (arith, within_tokens all place j stands, ap length same, length-map nodes node_token))
 
@@ -276,7 +278,8 @@ walk_goes_on all start next ms step Held Holds w is more = by_rest w.rest w.left
         let stands = member_value all next name j rest w.more left in
         let at : Member = record { name = name; place = next + 1; value = j } in
         let seen : Member = record { name = step.name.now; place = step.place; value = j } in
-        let same : seen ≡ at = ap (λ (n : List ℕ). record { name = n; place = step.place; value = j }) s.0 ∙ ap (λ (p : ℕ). record { name = name; place = p; value = j }) s.1 in
+        let same : seen ≡ at = ap (λ (n : List ℕ). record { name = n; place = step.place; value = j }) s.0 ∙
+        ap (λ (p : ℕ). record { name = name; place = p; value = j }) s.1 in
         record {
           seen = w.seen ++ seen ∷ [];
           rest = rest;

@@ -8,7 +8,8 @@ said_before each (Err place) more = Err place
 said_before each (Ok one) (Err place) = Err place
 said_before each (Ok one) (Ok others) = Ok (each one ++ others)
 
--- what each of these values says, by the members of the object that it is, or the place of the first that lacks something
+-- what each of these values says, by the members of the object that it is, or the place of the first that lacks
+-- something
 abbrev pub each_read : {A B : Type 0} → (B → List A) → (ℕ → Option (List Member) → Result B ℕ) → List Placed → Result (List A) ℕ
 each_read each read [] = Ok []
 each_read each read (p ∷ more) = said_before each (read p.place (object_members p.place p.value)) (each_read each read more)

@@ -41,7 +41,8 @@ abbrev pub with_links : ℕ → Head → Result (List LsaLink) ℕ → Result In
 with_links place head (Err lacking) = Err lacking
 with_links place head (Ok links) = Ok (instance_of place head links)
 
--- the router-LSA of an object at a place, of its head and the object of its links; of members of one name the last counts
+-- the router-LSA of an object at a place, of its head and the object of its links; of members of one name the last
+-- counts
 abbrev pub lsa_with : ℕ → Option Head → Option (ℕ × List Member) → Result Instance ℕ
 lsa_with place (Some head) (Some links) = with_links place head (links_in links.0 (member_values (those_last links.1)))
 lsa_with place _ _ = Err place

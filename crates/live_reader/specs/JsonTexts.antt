@@ -20,7 +20,7 @@ abbrev pub good_tokens : List Token → ℕ
 good_tokens [] = 0
 good_tokens (t ∷ ts) = if is_bad t then 0 else suc (good_tokens ts)
 
--- the line on which reading stops: that of the first token that is none, or stands where none of its kind may; the last line where
--- brackets alone are wrong
+-- the line on which reading stops: that of the first token that is none, or stands where none of its kind may; the last
+-- line where brackets alone are wrong
 abbrev pub stop_line : List ℕ → ℕ
 stop_line text = token_line text (good_tokens (tokens text))

@@ -8,7 +8,7 @@ use Rattle.live_reader.specs.declared.text.Within.TheVariants.{Blank, Word, Text
 abbrev pub line_of_offset : List ℕ → ℕ → ℕ
 line_of_offset text offset = 1 + count_by (λ c. c == 10) (take offset text)
 
--- braces and brackets
+-- whether a byte is a brace or a bracket, opening or closing
 abbrev pub is_bracket : ℕ → Bool
 is_bracket c = c == 123 || c == 125 || c == 91 || c == 93
 

@@ -39,7 +39,8 @@ abbrev pub IsItemStep : ℕ → Items → Option ℕ → Type 0
 IsItemStep place no_items next = next ≡ None
 IsItemStep place (item value more) next = next ≡ Some (place + length (json_tokens value))
 
--- of the members that begin at a place those before the next one were seen, and this holds of them
+-- how far a walk over an object's members came: those before the next token were seen, and this holds of them; the rest
+-- begin there
 pub record HaveSeen (all : List Token) (start : ℕ) (members : Members) (next : ℕ) (Holds : List Member → Type 0) : Type 0 where
   pub seen : List Member
   pub rest : Members
@@ -48,7 +49,8 @@ pub record HaveSeen (all : List Token) (start : ℕ) (members : Members) (next :
   pub whole : members_at start members ≡ seen ++ members_at next rest
   pub holds : Holds seen
 
--- of the items that begin at a place those before the next one were seen, and this holds of them
+-- how far a walk over an array's items came: those before the next token were seen, and this holds of them; the rest
+-- begin there
 pub record HaveSeenItems (all : List Token) (start : ℕ) (items : Items) (next : ℕ) (Holds : List Placed → Type 0) : Type 0 where
   pub seen : List Placed
   pub rest : Items

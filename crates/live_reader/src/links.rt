@@ -1,5 +1,5 @@
 //! The links of a router-LSA in JSON.
-ghost use Rattle.std.specs.Prelude.{◌≡◌, ◌+◌, ◌++◌, List, Ok, MatchResult, OnOk, option_to_list};
+ghost use Rattle.std.specs.Prelude.{◌≡◌, ◌+◌, List, Ok, MatchResult};
 ghost use Rattle.std.specs.Option.{option_and_then};
 ghost use Rattle.json.specs.Json.{Json, object, Members as SpecMembers};
 ghost use Rattle.live_reader.specs.Places.{Placed, Stands, members_at, object_members, those_last, member_values};
@@ -12,7 +12,7 @@ use crate::fault::Lack;
 use crate::fields::{number_named, quad_named, text_of_name};
 use crate::tree::opens_object;
 use crate::walk::last_places;
-use cost_base::{OutOfMemory, Refusal};
+use cost_base::{Refusal, push_some};
 use json::Tape;
 use lsa_bytes::{LsaLink, POINT_TO_POINT_LINK, TRANSIT_LINK};
 use std::alloc::Global;
@@ -98,25 +98,12 @@ fn link_at(
         (link_read around place (object_members place j)) refusal) }
 {
     if !opens_object(tape, place) {
-        return Err(Refusal::Refused {
-            fault: Lack,
-            place: around,
-        });
+        return Err(Refusal::at(around, Lack));
     }
     match link_said(tape, place) {
         Some(link) => Ok(link),
-        None => Err(Refusal::Refused { fault: Lack, place }),
+        None => Err(Refusal::at(place, Lack)),
     }
-}
-
-/// Adds a link, if there is one.
-fn push_link(links: &mut Vec<LsaLink>, link: Option<LsaLink>) -> Result<(), OutOfMemory>
-    ensures { OnOk result (links.new.items ≡ links.old.items ++ option_to_list link) }
-{
-    if let Some(link) = link {
-        links.push(link)?;
-    }
-    Ok(())
 }
 
 /// The links of the values at places, in an object, in order.
@@ -133,7 +120,7 @@ fn links_of(
     let mut links = Vec::new(alloc);
     for place in places {
         let link = link_at(tape, around, *place)?;
-        push_link(&mut links, link)?;
+        push_some(&mut links, link)?;
     }
     Ok(links)
 }

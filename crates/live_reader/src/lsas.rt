@@ -44,22 +44,13 @@ fn lsa_at(
 {
     let object = place as usize;
     if !opens_object(tape, object) {
-        return Err(Refusal::Refused {
-            fault: Lack,
-            place: around,
-        });
+        return Err(Refusal::at(around, Lack));
     }
     let Some(head) = head_at(tape, object) else {
-        return Err(Refusal::Refused {
-            fault: Lack,
-            place: object,
-        });
+        return Err(Refusal::at(object, Lack));
     };
     let Some(links_place) = inner_place(tape, object, b"routerLinks") else {
-        return Err(Refusal::Refused {
-            fault: Lack,
-            place: object,
-        });
+        return Err(Refusal::at(object, Lack));
     };
     let links = links_at(alloc, tape, links_place)?;
     Ok(instance_of(place, head, links))
@@ -98,10 +89,7 @@ fn lsas_at(
         (items_read around (items_of place j)) refusal) }
 {
     if !opens_array(tape, place) {
-        return Err(Refusal::Refused {
-            fault: Lack,
-            place: around,
-        });
+        return Err(Refusal::at(around, Lack));
     }
     let places = item_places(alloc, tape, place)?;
     let lsas = lsas_of(alloc, tape, around, &places)?;
@@ -142,16 +130,10 @@ fn area_lsas(
         refusal) }
 {
     let Some(areas) = inner_place(tape, around, b"areas") else {
-        return Err(Refusal::Refused {
-            fault: Lack,
-            place: around,
-        });
+        return Err(Refusal::at(around, Lack));
     };
     let Some(found) = area_place(tape, areas, area) else {
-        return Err(Refusal::Refused {
-            fault: Lack,
-            place: around,
-        });
+        return Err(Refusal::at(around, Lack));
     };
     let lsas = found_lsas(alloc, tape, areas, found)?;
     Ok(lsas)
@@ -169,10 +151,7 @@ pub fn live_lsas(
         TellsLack (live_lsas area j) refusal) }
 {
     let Some(states) = inner_place(tape, 0, b"routerLinkStates") else {
-        return Err(Refusal::Refused {
-            fault: Lack,
-            place: 0,
-        });
+        return Err(Refusal::at(0, Lack));
     };
     let lsas = area_lsas(alloc, tape, area, states)?;
     Ok(lsas)

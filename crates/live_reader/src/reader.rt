@@ -17,7 +17,7 @@ use crate::lsas::live_lsas;
 use crate::text::{is_space, line_of_offset, token_line};
 use cost_base::{OutOfMemory, Refusal};
 use json::{Reader, Scratch, Tape, Token};
-use lsa_bytes::{Database, Instance, database_of, read_lsas};
+use lsa_bytes::{Instance, LsaDatabase, database_of, read_lsas};
 use std::alloc::Global;
 
 /// How deep arrays and objects may nest.
@@ -86,7 +86,7 @@ fn decide(
     alloc: Global,
     text: &[u8],
     instances: Vec<Instance>,
-) -> Result<Database, Refusal<LiveFault>>
+) -> Result<LsaDatabase, Refusal<LiveFault>>
     requires few { length text.now < 2 ^ 32 - 1 }
     requires small { AreSmall instances.items (2 ^ 32 - 2) }
     ensures { MatchResult result (λ database. decided_in text.now
@@ -95,11 +95,9 @@ fn decide(
 {
     match database_of(alloc, instances) {
         Ok(database) => Ok(database),
-        Err(Refusal::Refused { fault, place }) => Err(Refusal::at(
-            token_line(text, place as usize),
-            LiveFault::Lsas(fault),
-        )),
-        Err(Refusal::OutOfMemory) => Err(Refusal::OutOfMemory),
+        Err(refusal) => Err(refusal.and_then(|fault, place| {
+            Refusal::at(token_line(text, place as usize), LiveFault::Lsas(fault))
+        })),
     }
 }
 
@@ -108,14 +106,11 @@ fn lacking(text: &[u8], refusal: Refusal<Lack, usize>) -> Refusal<LiveFault>
     requires { length text.now < 2 ^ 32 - 1 }
     ensures { result ≡ definition.lacking_in text.now refusal }
 {
-    match refusal {
-        Refusal::Refused { place, .. } => Refusal::at(token_line(text, place), LiveFault::BadLive),
-        Refusal::OutOfMemory => Refusal::OutOfMemory,
-    }
+    refusal.and_then(|_lack, place| Refusal::at(token_line(text, place), LiveFault::BadLive))
 }
 
 /// The LSAs of an area that a JSON text says.
-fn read_value(alloc: Global, text: &str, area: u32) -> Result<Database, Refusal<LiveFault>>
+fn read_value(alloc: Global, text: &str, area: u32) -> Result<LsaDatabase, Refusal<LiveFault>>
     requires { length text.now ≤ 2 ^ 26 }
     ensures { MatchResult result (λ database. (j : Json) → value_of_text text.now ≡ Some j →
         read_in text.now (json_lsas.live_lsas area j) ≡ Ok database)
@@ -136,7 +131,7 @@ fn read_value(alloc: Global, text: &str, area: u32) -> Result<Database, Refusal<
 }
 
 /// The LSAs of an area that a text says.
-fn read_text(alloc: Global, text: &str, area: u32) -> Result<Database, Refusal<LiveFault>>
+fn read_text(alloc: Global, text: &str, area: u32) -> Result<LsaDatabase, Refusal<LiveFault>>
     requires { length text.now ≤ 2 ^ 26 }
     ensures { MatchResult result (λ database. said_by_json area text.now ≡ Ok database)
         (TellsSaid (said_by_json area text.now)) }
@@ -149,7 +144,7 @@ fn read_text(alloc: Global, text: &str, area: u32) -> Result<Database, Refusal<L
 }
 
 /// The LSAs of an area that bytes say as JSON.
-fn read_json(alloc: Global, bytes: &[u8], area: u32) -> Result<Database, Refusal<LiveFault>>
+fn read_json(alloc: Global, bytes: &[u8], area: u32) -> Result<LsaDatabase, Refusal<LiveFault>>
     requires { length bytes.now ≤ 2 ^ 26 }
     ensures { MatchResult result (λ database. JsonComesTo area bytes.now (Ok database))
         (definition.RefusesJson area bytes.now) }
@@ -164,15 +159,16 @@ fn read_json(alloc: Global, bytes: &[u8], area: u32) -> Result<Database, Refusal
 }
 
 /// The LSAs that bytes say.
-fn read_bytes(alloc: Global, bytes: &[u8]) -> Result<Database, Refusal<LiveFault>>
+fn read_bytes(alloc: Global, bytes: &[u8]) -> Result<LsaDatabase, Refusal<LiveFault>>
     requires { length bytes.now < 2 ^ 32 - 1 }
     ensures { MatchResult result (λ database. BytesComeTo bytes.now (Ok database))
         (definition.RefusesBytes bytes.now) }
 {
     match read_lsas(alloc, bytes) {
         Ok(database) => Ok(database),
-        Err(Refusal::Refused { fault, place }) => Err(Refusal::at(place, LiveFault::Lsas(fault))),
-        Err(Refusal::OutOfMemory) => Err(Refusal::OutOfMemory),
+        Err(refusal) => {
+            Err(refusal.and_then(|fault, place| Refusal::at(place, LiveFault::Lsas(fault))))
+        }
     }
 }
 
@@ -186,7 +182,7 @@ fn read_bytes(alloc: Global, bytes: &[u8]) -> Result<Database, Refusal<LiveFault
 ///   lacks a member or has it off its form, then `TooManyRouters`, `LsaTwice` and `ZeroMetric`, each with its line.
 /// - In bytes the faults of `lsa_bytes::read_lsas`, each with the offset at which its LSA begins.
 /// - `OutOfMemory` where memory runs out.
-pub fn read_live(alloc: Global, bytes: &[u8], area: u32) -> Result<Database, Refusal<LiveFault>>
+pub fn read_live(alloc: Global, bytes: &[u8], area: u32) -> Result<LsaDatabase, Refusal<LiveFault>>
     requires { length bytes.now ≤ 2 ^ 26 }
     ensures { MatchResult result (λ live. LiveComesTo area bytes.now (Ok live))
         (RefusesLive area bytes.now) }

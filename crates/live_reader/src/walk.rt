@@ -7,11 +7,10 @@ ghost use Rattle.live_reader.specs.JsonLsas.{area_member};
 ghost use Rattle.live_reader.specs.Walks.{StandAt, StepOver, last_places};
 
 use crate::tree::{Step, item_end, opens_array, opens_object, step_at};
-use config_reader::Names;
 use cost_base::OutOfMemory;
 use json::Tape;
 use std::alloc::Global;
-use text_lines::quad;
+use text_lines::{Names, quad};
 
 /// Where the first member of the object at a place begins; None where no object begins there.
 fn first_member(tape: &Tape<'_>, place: usize) -> Option<usize>

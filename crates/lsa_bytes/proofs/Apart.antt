@@ -111,7 +111,8 @@ no_fault_behind before lsa more none =
     let whole = before ++ lsa ∷ more in
     let within : length before < length whole = omega (arith, length-append before (lsa ∷ more)) in
     let room : (is_router_lsa lsa && nat_le 1000 (count_by is_router_lsa before)) ≡ false =
-    by_kind (is_router_lsa lsa) (sum_by-append (λ l. cond (is_router_lsa l) 1 0) before (lsa ∷ more)) (sum_by-cons (λ l. cond (is_router_lsa l) 1 0) lsa more) in
+    by_kind (is_router_lsa lsa) (sum_by-append (λ l. cond (is_router_lsa l) 1 0) before (lsa ∷ more)) (sum_by-cons (λ l. cond (is_router_lsa l) 1 0) lsa more)
+    in
     let new : list_any (is_same lsa) before ≡ false = list_any_none (is_same lsa) before (λ k d below.
     sym (ap (is_same lsa) (get_or_append_left before (lsa ∷ more) d k below))
     ∙ ap (λ (l : Lsa). is_same l (get_or whole k d)) (sym (get_or-append_seam before lsa more d))

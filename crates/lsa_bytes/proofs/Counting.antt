@@ -82,7 +82,12 @@ filter_small p (instance ∷ more) = by_test (p instance) (filter_small p more)
   where
     by_test : (b : Bool) → sum_by size_of_lsa (lsas_of (filter p more)) ≤ sum_by size_of_lsa (lsas_of more) →
         sum_by size_of_lsa (lsas_of (cond b (instance ∷ filter p more) (filter p more))) ≤ sum_by size_of_lsa (lsas_of (instance ∷ more))
-    by_test true least = omega (arith, least, sum_by-cons size_of_lsa instance.lsa (lsas_of (filter p more)), sum_by-cons size_of_lsa instance.lsa (lsas_of more))
+    by_test true least = omega (
+      arith,
+      least,
+      sum_by-cons size_of_lsa instance.lsa (lsas_of (filter p more)),
+      sum_by-cons size_of_lsa instance.lsa (lsas_of more),
+    )
     by_test false least = omega (arith, least, sum_by-cons size_of_lsa instance.lsa (lsas_of more))
 
 pub counted_database : (all : List Instance) (before lsas : List Lsa) → AreSmall all (2 ^ 32 - 2) → before ≡ lsas_of (those_that_count all) →

@@ -97,7 +97,8 @@ module _ (lsas : List Lsa) where
           (λ w. Fits (record { from = v; to = w; price = Fixed link.metric }))
       by_kind true b none = weaker (router_vertex_back lsas link.id (has_link 1 router)) (λ w. w < 0 + length (routers_among lsas))
           (λ w. Fits (record { from = v; to = w; price = Fixed link.metric }))
-          (λ w bound. router_edge_fits (length (routers_among lsas)) (length (networks_among lsas)) v w link.metric from (omega arith) (some_metric link.metric none))
+          (λ w bound. router_edge_fits (length (routers_among lsas)) (length (networks_among lsas)) v w link.metric from (omega arith)
+          (some_metric link.metric none))
           (back_bound 0 (is_router_of link.id) (has_link 1 router) (routers_among lsas))
       by_kind false true none = weaker (network_vertex_back lsas link.id (attaches router))
           (λ w. w < length (routers_among lsas) + length (networks_among lsas))
@@ -160,7 +161,8 @@ module _ (lsas : List Lsa) where
 
   from_few : (v : ℕ) (lsa : Lsa) (body : Body) → length (edges_from lsas v lsa body) ≤ size_of_body body
   from_few v lsa (Links links) = flat_few (link_edge lsas v lsa.router) links (λ link. edge_few v (Fixed link.metric) (far_end lsas lsa.router link))
-  from_few v lsa (Attached attached) = flat_few (attached_edge lsas v lsa.id) attached (λ router. edge_few v Zero (router_vertex_back lsas router (has_link 2 lsa.id)))
+  from_few v lsa (Attached attached) = flat_few (attached_edge lsas v lsa.id) attached (λ router. edge_few v Zero
+      (router_vertex_back lsas router (has_link 2 lsa.id)))
 
   edges_few : (v : ℕ) (some : List Lsa) → length (edges_in_order lsas v some) ≤ sum_by size_of_lsa some
   edges_few v [] = omega arith

@@ -1,24 +1,16 @@
 -- Whole LSAs at the front of bytes.
-use Rattle.std.proofs.Common.{◌≡◌, ℕ, ◌+◌, ◌*◌, ◌≤◌, ◌||◌, Bool, true, false, cond, nat_lt, List, [], ◌++◌, length, take, get_or, Option, None, Some, refl, sym, ap, ◌∙◌, arith}
+use Rattle.std.proofs.Common.{◌≡◌, ℕ, ◌+◌, ◌*◌, ◌≤◌, ◌||◌, Bool, false, cond, nat_lt, List, [], ◌++◌, length, take, get_or, Option, None, Some, sym, ap, ◌∙◌, arith}
 use Rattle.std.specs.Option.{option_or}
 use Rattle.std.proofs.lemmas.Bool.{or_parts, or_from, ltb-false, le-ltb}
 use Rattle.std.proofs.lemmas.List.{append-nil, get_or_append_left, append_cancel_left, length-append}
 use Rattle.std.proofs.Math.Seq.{take-append_seam}
+use Rattle.cost_base.proofs.ListLemmas.{option_or-parts, cond-none}
 use Rattle.lsa_bytes.specs.declared.fault.LsaFault.{LsaFault}
 use Rattle.lsa_bytes.specs.declared.fault.LsaFault.TheVariants.{ShortLsa, BadLength}
 use Rattle.lsa_bytes.specs.Fields.{number_16}
 use Rattle.lsa_bytes.specs.Grammar.{length_of}
 use Rattle.lsa_bytes.specs.Faults.{length_fault, body_fault, form_fault}
 use Rattle.lsa_bytes.specs.Files.{IsLsa}
-
--- neither of two faults
-pub option_or-none : {X : Type 0} (a b : Option X) → option_or a b ≡ None → (a ≡ None) × (b ≡ None)
-option_or-none None b none = (refl, none)
-option_or-none (Some x) b none = absurd (cc)
-
-cond-none : {X : Type 0} (b : Bool) (x : X) (o : Option X) → cond b (Some x) o ≡ None → (b ≡ false) × (o ≡ None)
-cond-none true x o none = absurd (cc)
-cond-none false x o none = (refl, none)
 
 -- an LSA that begins the bytes, whole
 pub record BeginsWhole (rest : List ℕ) : Type 0 where
@@ -58,7 +50,7 @@ pub record IsWhole (lsa : List ℕ) : Type 0 where
 
 pub is_whole : (lsa : List ℕ) → IsLsa lsa → IsWhole lsa
 is_whole lsa is =
-    let begins = begins_whole lsa (option_or-none (length_fault lsa) (body_fault (take (length_of lsa) lsa)) is.1).0 in
+    let begins = begins_whole lsa (option_or-parts (length_fault lsa) (body_fault (take (length_of lsa) lsa)) is.1).0 in
     record { header = omega (arith, begins.header, begins.whole, is.0); long = is.0 }
 
 pub length_in_front : (lsa more : List ℕ) → IsWhole lsa → length_of (lsa ++ more) ≡ length lsa

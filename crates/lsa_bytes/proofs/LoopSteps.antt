@@ -1,7 +1,6 @@
 -- A loop that appends what each item gives, one item further.
-use Rattle.std.proofs.Common.{◌≡◌, ◌∙◌, ℕ, ◌+◌, ◌<◌, ◌++◌, ◌≤◌, Bool, true, false, cond, nat_eq, ap, sym, List, [], ◌∷◌, length, get_or, drop, append_assoc, filter, subst, arith}
+use Rattle.std.proofs.Common.{◌≡◌, ◌∙◌, ℕ, ◌+◌, ◌<◌, ◌++◌, ◌≤◌, Bool, true, false, cond, nat_eq, ap, sym, List, [], ◌∷◌, length, get_or, drop, append-nil, append_assoc, refl, filter, subst, arith}
 use Rattle.std.specs.Prelude.{Option, flat_map}
-use Rattle.std.proofs.lemmas.Bool.{eq-eqb, eqb-true, false_from_ne_true}
 use Rattle.std.proofs.lemmas.List.{at_drop_more, get_or_default}
 use Rattle.area_graph.specs.declared.Edge.{Edge}
 use Rattle.area_graph.specs.declared.Price.TheVariants.{Fixed}
@@ -37,29 +36,22 @@ link_more all vertex router i links d to before now whole within leads is_now so
     more_given (link_edge all vertex router) links i d before (edge_if_found vertex price to) now whole within
     (ap (λ (end : Option ℕ). edge_if_found vertex price end) leads) is_now so_far
 
--- the ID of one link more
-pub id_more : (kind i : ℕ) (links : List LsaLink) (d : LsaLink) (before now all : List ℕ) → i < length links → (get_or links i d).kind ≡ kind →
-    now ≡ before ++ (get_or links i d).id ∷ [] → before ++ ids_of_type kind (drop i links) ≡ all → now ++ ids_of_type kind (drop (i + 1) links) ≡ all
-id_more kind i links d before now all within same is_now so_far =
+-- the ID of one link more, where it is of the type
+pub id_more : (kind i : ℕ) (links : List LsaLink) (d : LsaLink) (before now all : List ℕ) → i < length links →
+    now ≡ cond (nat_eq (get_or links i d).kind kind) (before ++ (get_or links i d).id ∷ []) before →
+    before ++ ids_of_type kind (drop i links) ≡ all → now ++ ids_of_type kind (drop (i + 1) links) ≡ all
+id_more kind i links d before now all within is_now so_far =
     let link = get_or links i d in
-    let rest = ids_of_type kind (drop (i + 1) links) in
-    added before (link.id ∷ []) now (ids_of_type kind (drop i links)) rest all
-    (ids_step kind i links link within (get_or_default links i d link within) ∙ ap (λ (b : Bool). cond b (link.id ∷ []) [] ++ rest) (eq-eqb link.kind kind same)) is_now so_far
-
--- a link of another type has none
-pub id_passed : (kind i : ℕ) (links : List LsaLink) (d : LsaLink) (before now all : List ℕ) → i < length links → ((get_or links i d).kind ≡ kind → ⊥) →
-    now ≡ before → before ++ ids_of_type kind (drop i links) ≡ all → now ++ ids_of_type kind (drop (i + 1) links) ≡ all
-id_passed kind i links d before now all within other is_now so_far =
-    let link = get_or links i d in
-    let rest = ids_of_type kind (drop (i + 1) links) in
-    ap (λ (ys : List ℕ). ys ++ rest) is_now
-    ∙ ap (λ (ys : List ℕ). before ++ ys)
-    (sym (ids_step kind i links link within (get_or_default links i d link within) ∙ ap (λ (b : Bool). cond b (link.id ∷ []) [] ++ rest)
-    (false_from_ne_true (nat_eq link.kind kind) (λ same. other (eqb-true link.kind kind same)))))
-    ∙ so_far
+    added before (cond (nat_eq link.kind kind) (link.id ∷ []) []) now (ids_of_type kind (drop i links)) (ids_of_type kind (drop (i + 1) links)) all
+    (ids_step kind i links link within (get_or_default links i d link within)) (is_now ∙ by_test (nat_eq link.kind kind) link.id) so_far
+  where
+    by_test : (b : Bool) (id : ℕ) → cond b (before ++ id ∷ []) before ≡ before ++ cond b (id ∷ []) []
+    by_test true id = refl
+    by_test false id = sym (append-nil before)
 
 -- the edges out of the vertex of one LSA more, if it is of the kind
-pub edges_more : (all : List Lsa) (kind : Kind) (vertex next i : ℕ) (lsas read : List Lsa) (lsa : Lsa) (before now whole : List Edge) → read ≡ lsas → i < length read →
+pub edges_more : (all : List Lsa) (kind : Kind) (vertex next i : ℕ) (lsas read : List Lsa) (lsa : Lsa) (before now whole : List Edge) → read ≡ lsas →
+    i < length read →
     lsa ≡ get_or read i lsa → next ≡ vertex + cond (is_kind kind lsa) 1 0 →
     now ≡ before ++ cond (is_kind kind lsa) (edges_from all vertex lsa lsa.body) [] →
     before ++ edges_in_order all vertex (filter (is_kind kind) (drop i lsas)) ≡ whole →
@@ -68,8 +60,10 @@ edges_more all kind vertex next i lsas read lsa before now whole same within is 
     let here = cond (is_kind kind lsa) (edges_from all vertex lsa lsa.body) [] in
     let left = filter (is_kind kind) (drop (i + 1) lsas) in
     ap (λ (v : ℕ). now ++ edges_in_order all v left) next_is
-    ∙ added before here now (edges_in_order all vertex (filter (is_kind kind) (drop i lsas))) (edges_in_order all (vertex + cond (is_kind kind lsa) 1 0) left) whole
-    (edges_step all kind vertex i lsas lsa (subst (λ (ls : List Lsa). i < length ls) same within) (subst (λ (ls : List Lsa). lsa ≡ get_or ls i lsa) same is)) is_now so_far
+    ∙ added before here now (edges_in_order all vertex (filter (is_kind kind) (drop i lsas))) (edges_in_order all (vertex + cond (is_kind kind lsa) 1 0) left)
+    whole
+    (edges_step all kind vertex i lsas lsa (subst (λ (ls : List Lsa). i < length ls) same within) (subst (λ (ls : List Lsa). lsa ≡ get_or ls i lsa) same is))
+    is_now so_far
 
 -- the next vertex is near
 pub near_more : (b : Bool) (vertex next first i : ℕ) → next ≡ vertex + cond b 1 0 → vertex ≤ first + i → next ≤ first + (i + 1)

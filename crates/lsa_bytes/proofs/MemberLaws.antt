@@ -42,7 +42,8 @@ ids_step kind i links link within is =
     ∙ ap (λ (l : LsaLink). ids_of_type kind (l ∷ drop (i + 1) links)) (sym is)
     ∙ by_kind (nat_eq link.kind kind)
   where
-    by_kind : (b : Bool) → map (λ (l : LsaLink). l.id) (cond b (link ∷ filter (λ l. nat_eq l.kind kind) (drop (i + 1) links)) (filter (λ l. nat_eq l.kind kind) (drop (i + 1) links)))
+    by_kind : (b : Bool) → map (λ (l : LsaLink). l.id) (cond b (link ∷ filter (λ l. nat_eq l.kind kind) (drop (i + 1) links))
+        (filter (λ l. nat_eq l.kind kind) (drop (i + 1) links)))
         ≡ cond b (link.id ∷ []) [] ++ ids_of_type kind (drop (i + 1) links)
     by_kind true = refl
     by_kind false = refl
@@ -53,7 +54,8 @@ ids_pass kind id [] = refl
 ids_pass kind id (link ∷ links) = by_kind (nat_eq link.kind kind) (ids_pass kind id links)
   where
     by_kind : (b : Bool) → list_any (λ other. nat_eq other id) (ids_of_type kind links) ≡ has_link kind id (Links links) →
-        list_any (λ other. nat_eq other id) (map (λ (l : LsaLink). l.id) (cond b (link ∷ filter (λ l. nat_eq l.kind kind) links) (filter (λ l. nat_eq l.kind kind) links)))
+        list_any (λ other. nat_eq other id) (map (λ (l : LsaLink). l.id) (cond b (link ∷ filter (λ l. nat_eq l.kind kind) links)
+        (filter (λ l. nat_eq l.kind kind) links)))
         ≡ (b && nat_eq link.id id || has_link kind id (Links links))
     by_kind true rest = ap (λ (c : Bool). nat_eq link.id id || c) rest
     by_kind false rest = rest

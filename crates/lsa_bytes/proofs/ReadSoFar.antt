@@ -146,7 +146,8 @@ refused : (bytes rest : List ℕ) (instances : List Instance) (place : ℕ) (sto
 refused bytes rest instances place (Refused fault offset) so_far some place_is told =
     by_found (form_fault rest) refl told
   where
-    by_found : (found : Option LsaFault) → form_fault rest ≡ found → placed place found ≡ Some (fault, offset) → AreReadFrom bytes instances (Some (fault, offset))
+    by_found : (found : Option LsaFault) → form_fault rest ≡ found → placed place found ≡ Some (fault, offset) →
+        AreReadFrom bytes instances (Some (fault, offset))
     by_found None is none = absurd (cc)
     by_found (Some other) is same =
         subst (λ (pair : Option (LsaFault × ℕ)). AreReadFrom bytes instances pair) same

@@ -6,6 +6,7 @@ use Rattle.std.specs.Ordering.{nat_cmp}
 use Rattle.std.specs.BTreeMap.{get}
 use Rattle.std.proofs.lemmas.Bool.{false≢true}
 use Rattle.std.proofs.lemmas.List.Sums.{sum_by-cons, sum_by-append, length-filter}
+use Rattle.cost_base.proofs.ListLemmas.{option_or-assoc}
 use Rattle.lsa_bytes.specs.declared.Body.{Body}
 use Rattle.lsa_bytes.specs.declared.Lsa.{Lsa}
 use Rattle.lsa_bytes.specs.declared.vertices.Kind.{Kind}
@@ -54,10 +55,6 @@ named_network id lsa = by_kind (is_router_lsa lsa)
     by_kind false = refl
 
 -- One LSA more among those that are found.
-
-option_or-assoc : {X : Type 0} (a b c : Option X) → option_or (option_or a b) c ≡ option_or a (option_or b c)
-option_or-assoc None b c = refl
-option_or-assoc (Some x) b c = refl
 
 spot_from-push : (kind : Kind) (id number place : ℕ) (lsas : List Lsa) (lsa : Lsa) → spot_from kind id number place (lsas ++ lsa ∷ [])
     ≡ option_or (spot_from kind id number place lsas) (spot_if (named kind id lsa) (number + count_by (is_kind kind) lsas) (place + length lsas))

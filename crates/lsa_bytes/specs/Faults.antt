@@ -54,7 +54,7 @@ first_fault before (instance ∷ more) =
 abbrev pub fault_among : List Instance → Option (LsaFault × ℕ)
 fault_among all = first_fault [] (those_that_count all)
 
--- the refusal tells a fault and its place; want of memory says nothing
+-- a refusal of LSA bytes tells the fault that was found and the byte at which it stands; want of memory says nothing
 abbrev pub TellsLsaFault : Option (LsaFault × ℕ) → Refusal LsaFault ℕ → Type 0
 TellsLsaFault found (Refused fault offset) = found ≡ Some (fault, offset)
 TellsLsaFault found OutOfMemory = Unit {0}

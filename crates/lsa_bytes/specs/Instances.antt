@@ -39,8 +39,9 @@ abbrev pub newest_behind : Option Stamp → List Stamp → Option Stamp
 newest_behind found [] = found
 newest_behind found (stamp ∷ more) = newest_behind (Some (newer_of found stamp)) more
 
--- The newest of instances: each is compared with the one that stands so far, in their order. Of three whose ages lie less
--- and more than MaxAgeDiff apart each may be as new as the next and the last newer than the first, so the order decides.
+-- The newest of instances: each is compared with the one that stands so far, in their order. Of three whose ages lie
+-- less and more than MaxAgeDiff apart each may be as new as the next and the last newer than the first, so the order
+-- decides.
 abbrev pub newest : List Stamp → Option Stamp
 newest stamps = newest_behind None stamps
 

@@ -3,7 +3,7 @@ use Rattle.std.specs.Prelude.{ℕ}
 use Rattle.lsa_bytes.specs.declared.fault.LsaFault.{LsaFault}
 use Rattle.lsa_bytes.specs.declared.fault.LsaFault.TheVariants.{ShortLsa, BadLength, BadBody, LsaTwice, ZeroMetric, NoRouterId, RouterIdTwice, TooManyRouters}
 
--- the number of a fault
+-- the number of a fault of LSAs or router IDs
 abbrev pub lsa_fault_number : LsaFault → ℕ
 lsa_fault_number ShortLsa = 73
 lsa_fault_number BadLength = 74

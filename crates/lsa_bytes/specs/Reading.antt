@@ -11,7 +11,8 @@ use Rattle.lsa_bytes.specs.Instances.{lsas_of}
 use Rattle.lsa_bytes.specs.Faults.{TellsLsaFault, fault_among, rest_fault}
 use Rattle.lsa_bytes.specs.Files.{FallInto, instances_in}
 
--- instances of which a database may be made: links of types 1 to 4, and little enough of all
+-- the LSAs of these instances suit a database: their links are of types 1 to 4, and four times their sizes are at most
+-- so much
 pub record AreSmall (instances : List Instance) (most : ℕ) : Type 0 where
   pub types : All (λ lsa. has_link_types lsa.body ≡ true) (lsas_of instances)
   pub sizes : 4 * sum_by size_of_lsa (lsas_of instances) ≤ most

@@ -6,7 +6,7 @@ ghost use Rattle.lsa_bytes.specs.Vertices.{is_kind};
 use crate::vertices::{Kind, Vertices, is_kind};
 use crate::{Body, Lsa, LsaLink, POINT_TO_POINT_LINK, TRANSIT_LINK};
 use area_graph::{Edge, Price};
-use cost_base::OutOfMemory;
+use cost_base::{OutOfMemory, push_some};
 
 /// Appends an edge, if it leads anywhere.
 fn push_edge(
@@ -17,10 +17,7 @@ fn push_edge(
 ) -> Result<(), OutOfMemory>
     ensures { OnOk result (edges.new.items ≡ edges.old.items ++ edge_if_found from price to) }
 {
-    if let Some(to) = to {
-        edges.push(Edge { from, to, price })?;
-    }
-    Ok(())
+    push_some(edges, to.map(|to| Edge { from, to, price }))
 }
 
 /// The vertex to which a router's link leads, if that leads back.

@@ -7,7 +7,7 @@ ghost use Rattle.lsa_bytes.specs.Vertices.{AreEnds, ids_of_type};
 
 use crate::sorted_numbers::SortedNumbers;
 use crate::{Body, LsaLink, POINT_TO_POINT_LINK, TRANSIT_LINK};
-use cost_base::OutOfMemory;
+use cost_base::{OutOfMemory, push_if};
 use std::alloc::Global;
 
 /// Where an LSA leads.
@@ -29,9 +29,7 @@ fn ids_of_type(alloc: Global, links: &[LsaLink], kind: u8) -> Result<Vec<u32>, O
 {
     let mut ids = Vec::new(alloc);
     for link in links {
-        if link.kind == kind {
-            ids.push(link.id)?;
-        }
+        push_if(&mut ids, link.id, link.kind == kind)?;
     }
     Ok(ids)
 }

@@ -2,7 +2,7 @@
 ghost use Rattle.std.specs.Prelude.{◌≡◌, IfOk};
 ghost use Rattle.lsa_bytes.specs.AreaGraphs.{lsa_graph};
 
-use crate::Database;
+use crate::LsaDatabase;
 use crate::edges::push_edges;
 use crate::vertices::{Kind, Vertices};
 use area_graph::{Graph, vertices_of};
@@ -16,7 +16,7 @@ use std::alloc::Global;
 /// # Errors
 ///
 /// `OutOfMemory` where memory runs out, and never else.
-pub fn graph_of_lsas(alloc: Global, database: &Database) -> Result<Graph, OutOfMemory>
+pub fn graph_of_lsas(alloc: Global, database: &LsaDatabase) -> Result<Graph, OutOfMemory>
     ensures { IfOk result (λ graph. graph ≡ lsa_graph database.now) }
 {
     let vertices = Vertices::of(alloc, database.as_slice())?;

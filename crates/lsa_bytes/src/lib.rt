@@ -58,11 +58,11 @@ pub struct Lsa {
 /// one advertising router, and no two network-LSAs of one link state ID; there are at most 1,000 router-LSAs; LSAs,
 /// links and attached routers are together fewer than 2^30.
 #[derive(Drop)]
-pub struct Database {
+pub struct LsaDatabase {
     lsas: Listed<Lsa>,
 }
 
-impl Model for Database {
+impl Model for LsaDatabase {
     ghost use Rattle.std.specs.Prelude.{List};
     ghost use Rattle.lsa_bytes.specs.declared.Lsa.{Lsa as OneLsa};
     ghost use Rattle.lsa_bytes.specs.Databases.{IsLsaDatabase};
@@ -74,13 +74,13 @@ impl Model for Database {
     ghost invariant = { λ d. IsLsaDatabase d.lsas };
 }
 
-impl Database {
+impl LsaDatabase {
     /// The database of these LSAs, in their order.
-    pub fn from_items(lsas: Vec<Lsa>) -> Database
+    pub fn from_items(lsas: Vec<Lsa>) -> LsaDatabase
         requires { IsLsaDatabase lsas.items }
         ensures { result ≡ lsas.items }
     {
-        Database {
+        LsaDatabase {
             lsas: Listed::from_items(lsas),
         }
     }

@@ -1,5 +1,5 @@
 //! Reading files of LSAs.
-ghost use Rattle.std.specs.Prelude.{◌≡◌, ◌<◌, ◌^◌, [], None, Ok, length, List, ℕ, All, map, MatchResult, OnOk, ◌++◌, ◌-◌, option_to_list, Result};
+ghost use Rattle.std.specs.Prelude.{◌≡◌, ◌<◌, ◌^◌, [], None, Ok, length, List, ℕ, All, map, MatchResult, ◌-◌, Result};
 ghost use Rattle.lsa_bytes.specs.declared.Lsa.{Lsa as OneLsa};
 ghost use Rattle.lsa_bytes.specs.declared.fault.LsaFault.{LsaFault as OneFault};
 ghost use Rattle.lsa_bytes.specs.Grammar.{length_of};
@@ -15,8 +15,8 @@ use crate::fields::number_16;
 use crate::instances::Instance;
 use crate::newest::Newest;
 use crate::reader::Reader;
-use crate::{Database, LsaFault};
-use cost_base::{OutOfMemory, Refusal};
+use crate::{LsaDatabase, LsaFault};
+use cost_base::{Refusal, push_some};
 use std::alloc::Global;
 
 /// The length of the LSA that begins the bytes, all of which they have.
@@ -37,16 +37,6 @@ fn whole_length(rest: &[u8], offset: u32) -> Result<usize, Refusal<LsaFault>>
     Ok(length)
 }
 
-/// Appends an instance, if there is one.
-fn push_said(instances: &mut Vec<Instance>, said: Option<Instance>) -> Result<(), OutOfMemory>
-    ensures { OnOk result (instances.new.items ≡ instances.old.items ++ option_to_list said) }
-{
-    if let Some(instance) = said {
-        instances.push(instance)?;
-    }
-    Ok(())
-}
-
 /// Appends what the LSAs of the bytes say, one after the other, up to the first that is off the grammar.
 fn push_instances(
     alloc: Global,
@@ -63,7 +53,7 @@ fn push_instances(
         let offset = (bytes.len() - rest.len()) as u32;
         let length = whole_length(rest, offset)?;
         let (lsa, behind) = rest.split_at(length);
-        push_said(instances, said_at(alloc, lsa, offset)?)?;
+        push_some(instances, said_at(alloc, lsa, offset)?)?;
         rest = behind;
     }
     Ok(())
@@ -76,7 +66,10 @@ fn push_instances(
 ///
 /// `Refused` with the place of the first instance that counts and has a fault, and of its faults the first in the order
 /// `TooManyRouters`, `LsaTwice`, `ZeroMetric`. `OutOfMemory` where memory runs out.
-pub fn database_of(alloc: Global, instances: Vec<Instance>) -> Result<Database, Refusal<LsaFault>>
+pub fn database_of(
+    alloc: Global,
+    instances: Vec<Instance>,
+) -> Result<LsaDatabase, Refusal<LsaFault>>
     requires { AreSmall instances.items (2 ^ 32 - 2) }
     ensures { MatchResult result (λ database. (fault_among instances.items ≡ None) ×
         (database ≡ lsas_of (those_that_count instances.items)))
@@ -89,7 +82,7 @@ pub fn database_of(alloc: Global, instances: Vec<Instance>) -> Result<Database, 
             reader = reader.with(instance.lsa, instance.stamp.place)?;
         }
     }
-    Ok(Database::from_items(reader.into_lsas()))
+    Ok(LsaDatabase::from_items(reader.into_lsas()))
 }
 
 /// The first refusal, where one comes behind instances: that of the first fault among them, or else that one.
@@ -119,7 +112,7 @@ fn first_refusal(
 /// `Refused` with the offset of the first faulty LSA, and of its faults the first in the order `ShortLsa`, `BadLength`,
 /// `BadBody`, `TooManyRouters`, `LsaTwice`, `ZeroMetric`, of which the last three are faults of what counts among the
 /// LSAs before the first that has one of the others. `OutOfMemory` where memory runs out.
-pub fn read_lsas(alloc: Global, bytes: &[u8]) -> Result<Database, Refusal<LsaFault>>
+pub fn read_lsas(alloc: Global, bytes: &[u8]) -> Result<LsaDatabase, Refusal<LsaFault>>
     requires { length bytes.now < 2 ^ 32 - 1 }
     ensures { MatchResult result (λ database. ComesTo bytes.now (Ok database)) (Refuses bytes.now) }
 {

@@ -12,7 +12,7 @@ use Rattle.interface_model.specs.Records.{Router as Config}
 use Rattle.lsdb_build.specs.declared.Far.{Far}
 use Rattle.lsdb_build.specs.declared.Far.TheVariants.{Router, Subnet}
 use Rattle.lsdb_build.specs.Graphs.{Database}
-use Rattle.lsdb_build.proofs.Pairs.{all_at, all_from_at, at_map, pairs_append}
+use Rattle.lsdb_build.proofs.Pairs.{all_at, all_from_at, at_map}
 use Rattle.lsdb_build.proofs.GraphLaws.{AreMembers, members_fit, members_below}
 use Rattle.lsa_bytes.specs.declared.LsaLink.{LsaLink}
 use Rattle.lsa_bytes.specs.declared.Lsa.{Lsa}
@@ -24,7 +24,7 @@ use Rattle.lsa_writer.specs.declared.said.OwnedLink.{OwnedLink}
 use Rattle.lsa_writer.specs.Ends.{id_of, no_end, end_of, link_ends, end_at, designated, member_ends, designated_ends}
 use Rattle.lsa_writer.specs.WrittenLsas.{lsa_link, said_link, links_alone, own_links, own_lsa, routers_in, router_lsas, subnet_lsa, network_lsas, all_links_said, written_lsas}
 use Rattle.lsa_writer.specs.OneGraph.{IsRangedEnd, IsRangedLink}
-use Rattle.cost_base.proofs.ListLemmas.{length-numbers_from}
+use Rattle.cost_base.proofs.ListLemmas.{length-numbers_from, pairs_append}
 use Rattle.lsa_writer.proofs.ListPlaces.{number_there}
 use Rattle.lsa_writer.proofs.Elections.{elected}
 use Rattle.lsa_writer.proofs.ToldLinks.{AreFit, own, of_subnet, own_all, of_subnets, told, routers_are, own_length, own_at, said_every, said_length, one_subnet}

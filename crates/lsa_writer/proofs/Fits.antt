@@ -8,11 +8,12 @@ use Rattle.std.proofs.lemmas.Option.{none-some, same_Some, slice_get-get_or}
 use Rattle.std.proofs.lemmas.List.{length-map}
 use Rattle.std.proofs.lemmas.List.Elements.{All-nil, All-cons, All-weaker}
 use Rattle.std.proofs.lemmas.List.Kept.{AllPairs-cons}
+use Rattle.cost_base.proofs.ListLemmas.{pairs_nil}
 use Rattle.interface_model.specs.Records.{Router, IsRouter}
 use Rattle.lsdb_build.specs.Graphs.{Database}
 use Rattle.lsdb_build.specs.Neighbours.{Port, ports, shares_subnet, linked, transit_subnets}
 use Rattle.lsdb_build.specs.Topology.{topology_fault, database_of, places_from}
-use Rattle.lsdb_build.proofs.Pairs.{all_at, all_from_at, pair_at, pairs_nil, map_at}
+use Rattle.lsdb_build.proofs.Pairs.{all_at, all_from_at, pair_at, map_at}
 use Rattle.lsdb_build.proofs.Subnets.{shares_itself, firsts_all}
 use Rattle.lsdb_build.proofs.Databases.{database_is}
 use Rattle.lsa_bytes.specs.declared.fault.LsaFault.{LsaFault}

@@ -3,7 +3,7 @@ use Rattle.std.proofs.Common.{◌≡◌, ℕ, zero, suc, ◌+◌, ◌<◌, ◌�
 use Rattle.std.specs.Prelude.{All, AllPairs, flat_map, ◌==◌}
 use Rattle.std.proofs.lemmas.Bool.{cases_Bool, eqb-true, eqb-false, ne_eqb}
 use Rattle.std.proofs.lemmas.List.Elements.{All-head, All-tail, All-weaker}
-use Rattle.lsdb_build.proofs.Pairs.{pairs_head, pairs_tail}
+use Rattle.cost_base.proofs.ListLemmas.{pairs_head, pairs_tail}
 use Rattle.lsa_writer.specs.declared.said.OwnedLink.{OwnedLink}
 use Rattle.lsa_writer.specs.WrittenLsas.{own_links}
 

@@ -5,12 +5,13 @@ use Rattle.std.proofs.lemmas.Bool.{cases_Bool, cases_order, false≢true, eq-eqb
 use Rattle.std.proofs.lemmas.Option.{none-some, same_Some}
 use Rattle.cost_base.specs.Lists.{same_bytes}
 use Rattle.cost_base.proofs.ByteLemmas.{same_bytes-true, same_bytes-refl}
+use Rattle.cost_base.proofs.ListLemmas.{pairs_head, pairs_tail}
 use Rattle.interface_model.specs.declared.Interface.{Interface}
 use Rattle.interface_model.specs.Records.{Router, IsRouter}
 use Rattle.lsdb_build.specs.declared.Linked.{Linked}
 use Rattle.lsdb_build.specs.Neighbours.{Port, ports, linked}
 use Rattle.lsdb_build.specs.Topology.{topology_fault, link_of, database_of}
-use Rattle.lsdb_build.proofs.Pairs.{all_at, pair_at, map_at, pairs_head, pairs_tail}
+use Rattle.lsdb_build.proofs.Pairs.{all_at, pair_at, map_at}
 use Rattle.lsdb_build.proofs.PortFacts.{differ}
 use Rattle.lsdb_build.proofs.PortOwners.{IsPortOf, linked_owned, owner_there}
 use Rattle.lsdb_build.proofs.Databases.{ports_sound, sound_linked}

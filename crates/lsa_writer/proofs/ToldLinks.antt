@@ -8,13 +8,13 @@ use Rattle.std.proofs.lemmas.Simd.{map-map}
 use Rattle.std.proofs.lemmas.List.Elements.{All-nil, All-cons, filter-append}
 use Rattle.std.proofs.lemmas.List.Kept.{AllPairs-cons}
 use Rattle.cost_base.specs.Lists.{numbers_from}
-use Rattle.cost_base.proofs.ListLemmas.{length-numbers_from, list_any-map}
+use Rattle.cost_base.proofs.ListLemmas.{length-numbers_from, list_any-map, pairs_nil, pairs_head, pairs_tail}
 use Rattle.interface_model.specs.Records.{Router as Config}
 use Rattle.lsdb_build.specs.declared.Far.{Far}
 use Rattle.lsdb_build.specs.declared.Far.TheVariants.{Router, Subnet}
 use Rattle.lsdb_build.specs.declared.Linked.{Linked}
 use Rattle.lsdb_build.specs.Graphs.{Database, IsAreaDatabase, IsDatabaseLink, link_leads_to, leads_to, links_into_subnet}
-use Rattle.lsdb_build.proofs.Pairs.{all_at, map_at, at_map, pairs_nil, pairs_head, pairs_tail}
+use Rattle.lsdb_build.proofs.Pairs.{all_at, map_at, at_map}
 use Rattle.lsa_bytes.specs.declared.LsaLink.{LsaLink}
 use Rattle.lsa_bytes.specs.declared.Body.{Body}
 use Rattle.lsa_bytes.specs.declared.Lsa.{Lsa}
@@ -73,12 +73,14 @@ router_there configs said k x at = let from = map_at (own configs said) (numbers
 network_there : (ends : List LinkEnd) (subnets : List (List ℕ)) (k : ℕ) (x : Lsa) → slice_get (of_subnets ends subnets) k ≡ Some x → is_router_lsa x ≡ false
 network_there ends subnets k x at = let from = map_at (of_subnet ends) subnets k x at in ap is_router_lsa from.2
 
-pub routers_are : (configs : List Config) (d : Database) (costs : List ℕ) → routers_among (told configs d costs) ≡ own_all configs (all_links_said configs d costs)
+pub routers_are : (configs : List Config) (d : Database) (costs : List ℕ) →
+    routers_among (told configs d costs) ≡ own_all configs (all_links_said configs d costs)
 routers_are configs d costs =
     let said = all_links_said configs d costs in
     let ends = link_ends configs d.links in
     filter-append is_router_lsa (own_all configs said) (of_subnets ends d.subnets)
-    ∙ ap (λ (xs : List Lsa). xs ++ filter is_router_lsa (of_subnets ends d.subnets)) (keeps_all is_router_lsa (own_all configs said) (router_there configs said))
+    ∙ ap (λ (xs : List Lsa). xs ++ filter is_router_lsa (of_subnets ends d.subnets)) (keeps_all is_router_lsa (own_all configs said)
+    (router_there configs said))
     ∙ ap (λ (xs : List Lsa). own_all configs said ++ xs) (keeps_none is_router_lsa (of_subnets ends d.subnets) (network_there ends d.subnets))
     ∙ append_nothing (own_all configs said)
   where
@@ -86,7 +88,8 @@ routers_are configs d costs =
     append_nothing [] = refl
     append_nothing (x ∷ xs) = ap (λ ys. x ∷ ys) (append_nothing xs)
 
-pub networks_are : (configs : List Config) (d : Database) (costs : List ℕ) → networks_among (told configs d costs) ≡ of_subnets (link_ends configs d.links) d.subnets
+pub networks_are : (configs : List Config) (d : Database) (costs : List ℕ) →
+    networks_among (told configs d costs) ≡ of_subnets (link_ends configs d.links) d.subnets
 networks_are configs d costs =
     let said = all_links_said configs d costs in
     let ends = link_ends configs d.links in
@@ -229,7 +232,8 @@ router_vertex configs d costs router leads fit below back =
     (eq-eqb (id_of configs router) (id_of configs router) refl) back only
     ∙ ap Some (zero-add router)
   where
-    only : (j : ℕ) (y : Lsa) → slice_get (own_all configs (all_links_said configs d costs)) j ≡ Some y → is_router_of (id_of configs router) y ≡ true → j ≡ router
+    only : (j : ℕ) (y : Lsa) → slice_get (own_all configs (all_links_said configs d costs)) j ≡ Some y → is_router_of (id_of configs router) y ≡ true →
+        j ≡ router
     only j y at is =
         let said = all_links_said configs d costs in
         let within : j < length configs = omega (arith, slice_get_within (own_all configs said) j y at, own_length configs said) in

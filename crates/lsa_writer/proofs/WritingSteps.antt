@@ -11,9 +11,10 @@ use Rattle.std.proofs.lemmas.List.Kept.{AllPairs-filter}
 use Rattle.std.proofs.lemmas.List.Sums.{length-filter, count_by-le-length}
 use Rattle.cost_base.specs.Lists.{same_bytes, numbers_from}
 use Rattle.cost_base.proofs.ByteLemmas.{same_bytes-true}
+use Rattle.cost_base.proofs.ListLemmas.{pairs_head, pairs_tail}
 use Rattle.interface_model.specs.declared.Interface.{Interface}
 use Rattle.interface_model.specs.Records.{Router}
-use Rattle.lsdb_build.proofs.Pairs.{all_at, at_map, pairs_head, pairs_tail}
+use Rattle.lsdb_build.proofs.Pairs.{all_at, at_map}
 use Rattle.lsdb_build.proofs.PortFacts.{differ}
 use Rattle.lsdb_build.proofs.GraphLaws.{numbers_step}
 use Rattle.lsa_bytes.specs.declared.Body.TheVariants.{Links, Attached}

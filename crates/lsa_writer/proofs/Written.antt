@@ -25,7 +25,8 @@ use Rattle.lsa_writer.proofs.Fits.{built_fits, ids_below}
 -- what links said is what all links say
 pub said_is : (configs : List Router) (d : Database) (links : List Linked) (subnets : List (List ℕ)) (costs : List ℕ)
     (ends chosen : List LinkEnd) (said : List OwnedLink) → links ≡ d.links → subnets ≡ d.subnets →
-    ends ≡ link_ends configs links → chosen ≡ designated_ends ends subnets → said ≡ said_links configs chosen links costs → said ≡ all_links_said configs d costs
+    ends ≡ link_ends configs links → chosen ≡ designated_ends ends subnets → said ≡ said_links configs chosen links costs →
+    said ≡ all_links_said configs d costs
 said_is configs d links subnets costs ends chosen said links_are subnets_are ends_are chosen_are said_are =
     said_are
     ∙ ap (λ (cs : List LinkEnd). said_links configs cs links costs)

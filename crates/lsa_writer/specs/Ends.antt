@@ -50,7 +50,8 @@ link_ends configs links = map (end_of configs) links
 abbrev pub end_at : List LinkEnd → ℕ → LinkEnd
 end_at ends l = slice_index_or ends l no_end
 
--- The designated router of a subnet is the member with the greatest priority, of equals the one with the greatest router ID.
+-- The designated router of a subnet is the member with the greatest priority, of equals the one with the greatest
+-- router ID.
 
 -- one end has a greater router priority than another, or the same and a greater router ID (RFC 2328, 9.4)
 abbrev pub outranks : LinkEnd → LinkEnd → Bool

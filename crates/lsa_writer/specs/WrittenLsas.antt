@@ -13,8 +13,8 @@ use Rattle.lsa_writer.specs.declared.ends.LinkEnd.{LinkEnd}
 use Rattle.lsa_writer.specs.declared.said.OwnedLink.{OwnedLink}
 use Rattle.lsa_writer.specs.Ends.{id_of, end_of, link_ends, end_at, member_ends, designated, designated_ends}
 
--- a link over a point-to-point subnet tells the neighbour's router ID, one into a transit subnet the designated router's
--- address; both tell their own address
+-- a link over a point-to-point subnet tells the neighbour's router ID, one into a transit subnet the designated
+-- router's address; both tell their own address
 abbrev pub lsa_link : List Config → List LinkEnd → LinkEnd → Far → ℕ → LsaLink
 lsa_link configs designated own (Router r) cost = record { id = id_of configs r; address = own.address; kind = 1; metric = cost }
 lsa_link configs designated own (Subnet s) cost = record { id = (end_at designated s).address; address = own.address; kind = 2; metric = cost }

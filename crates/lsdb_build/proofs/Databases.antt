@@ -1,22 +1,25 @@
--- The database of faultless configurations is one: links have other ends, and a subnet's members are the links that lead to it.
+-- The database of faultless configurations is one: links have other ends, and a subnet's members are the links that
+-- lead to it.
 use Rattle.std.proofs.Common.{◌≡◌, ◌≢◌, ℕ, zero, suc, ◌+◌, ◌<◌, ◌≤◌, ◌==◌, ◌⊎◌, inl, inr, Bool, true, false, cond, not, eq-eqb, List, [], ◌∷◌, Some, None, length, map, count_by, refl, sym, ap, ◌∙◌, subst, arith, zero-add, slice_get, slice_index_or, All, AllPairs, unwrap_or}
 use Rattle.std.specs.List.{filter}
 use Rattle.std.proofs.lemmas.Bool.{false≢true, and_parts, and_from, and_right, cases_Bool, eqb-true, ne_eqb, false_from_ne_true, cases_order}
 use Rattle.std.proofs.lemmas.Option.{none-some, same_Some, slice_get_within, slice_get-get_or}
 use Rattle.std.proofs.lemmas.List.{length-map}
 use Rattle.std.proofs.lemmas.List.Elements.{All-weaker, All-filter, All-map, filter_passes}
-use Rattle.std.proofs.lemmas.List.Kept.{AllPairs-cons, AllPairs-filter}
+use Rattle.std.proofs.lemmas.List.Kept.{AllPairs-filter}
 use Rattle.std.proofs.lemmas.List.Sums.{length-filter, count_by-le-length}
 use Rattle.cost_base.specs.Lists.{numbers_from}
 use Rattle.cost_base.specs.Words.{IsWord}
+use Rattle.cost_base.proofs.ListLemmas.{pairs_map}
 use Rattle.interface_model.specs.declared.Kind.{Kind}
 use Rattle.interface_model.specs.declared.Kind.TheVariants.{PointToPoint, Broadcast}
 use Rattle.interface_model.specs.Records.{Router, IsRouter}
 use Rattle.lsdb_build.specs.declared.Far.TheVariants.{Router as ToRouter}
 use Rattle.lsdb_build.specs.Neighbours.{Port, ports, shares_subnet, is_linked, is_linked_kind, linked, is_broadcast, is_broadcast_kind, transit_subnets, place_from, is_port, is_other}
 use Rattle.lsdb_build.specs.Graphs.{IsAreaDatabase, IsDatabaseLink, IsFar, HasLinkBack, IsLinkBackOf, link_leads_to, leads_to, links_into_subnet}
-use Rattle.lsdb_build.specs.Topology.{is_second_of_router, is_second_of_address, is_mismatch, is_crowding, is_overlap, lacks_designated, first_where, at_port, at_config, past, second_of_name, topology_fault, router_at, far_of, link_back_of, link_of, places_from, database_of}
-use Rattle.lsdb_build.proofs.Pairs.{all_at, all_from_at, pair_at, pairs_nil, pairs_head, pairs_tail, pairs_weaker, map_at, at_map, count_agree, count_filter, other_place}
+use Rattle.lsdb_build.specs.Topology.{is_second_of_router, is_second_of_address, is_mismatch, is_crowding, is_overlap, lacks_designated, first_where, at_port, at_config, past, second_of_name, topology_fault, link_of, places_from, database_of}
+use Rattle.lsdb_build.specs.Links.{router_at, far_among, link_back_among}
+use Rattle.lsdb_build.proofs.Pairs.{all_at, all_from_at, pair_at, pairs_weaker, map_at, at_map, count_agree, count_filter, other_place}
 use Rattle.lsdb_build.proofs.Subnets.{shares_itself, shares_back, shares_on, shares_alike, none_passes, differs_in_kind, kinds_at, place_only, firsts_all, firsts_length, firsts_are_first, FirstOf, first_found}
 use Rattle.lsdb_build.specs.declared.fault.TopologyFault.TheVariants.{TooMany, NameTwice, SameRouterTwice, AddressTwice, TypeMismatch, CrowdedLink, NoDesignated, OverlapPrefix}
 use Rattle.lsdb_build.proofs.PortFacts.{IsPortFrom, InOrder, ports_from_all, ports_from_pairs, no_first, no_port, no_config, within, none_past, names_differ}
@@ -174,7 +177,7 @@ subnet_place all p s f at shares =
 -- a link leads to a transit subnet exactly where its interface shares the subnet
 pub leads_where_shares : (n : ℕ) (all : List Port) → IsSound n all → (s : ℕ) (f : Port) →
     slice_get (transit_subnets all) s ≡ Some f → (l : ℕ) (p : Port) → slice_get (linked all) l ≡ Some p →
-    shares_subnet f p ≡ leads_to s (far_of all p p.interface.kind)
+    shares_subnet f p ≡ leads_to s (far_among (linked all) (transit_subnets all) p p.interface.kind)
 leads_where_shares n all sound s f at_s l p at_l = by_kind p.interface.kind refl
   where
     kept : IsSound n (linked all)
@@ -186,7 +189,7 @@ leads_where_shares n all sound s f at_s l p at_l = by_kind p.interface.kind refl
         v.interface.kind ≡ q.interface.kind) (linked all)
         (λ i v at_i k q at_k shares. kinds_at (linked all) kept.kinds i k v q at_i at_k shares)
 
-    by_kind : (kind : Kind) → p.interface.kind ≡ kind → shares_subnet f p ≡ leads_to s (far_of all p kind)
+    by_kind : (kind : Kind) → p.interface.kind ≡ kind → shares_subnet f p ≡ leads_to s (far_among (linked all) (transit_subnets all) p kind)
     by_kind PointToPoint is = false_from_ne_true (shares_subnet f p) (λ shares.
         (let same = all_at (λ v. (k : ℕ) (q : Port) → slice_get (linked all) k ≡ Some q → shares_subnet v q ≡ true →
         v.interface.kind ≡ q.interface.kind) (transit_subnets all)
@@ -218,45 +221,45 @@ places_are h test n (x ∷ xs) same =
     let rest = places_are h test (n + 1) xs (λ k y at. ap h (omega arith) ∙ same (suc k) y at) in
     ap (λ b. cond b (n ∷ places_from (n + 1) test xs) (places_from (n + 1) test xs)) (sym here) ∙ ap (λ ns. cond (h n) (n ∷ ns) ns) rest
 
--- pairs of what a function gives
-pairs_map : {X Y : Type 0} (R : Y → Y → Type 0) (f : X → Y) (xs : List X) → AllPairs (λ a b. R (f a) (f b)) xs → AllPairs R (map f xs)
-pairs_map R f [] pairs = pairs_nil R
-pairs_map R f (x ∷ xs) pairs =
-    AllPairs-cons R (f x) (map f xs) (All-map (R (f x)) f xs (pairs_head (λ a b. R (f a) (f b)) x xs pairs))
-    (pairs_map R f xs (pairs_tail (λ a b. R (f a) (f b)) x xs pairs))
-
 -- where the link of a point-to-point subnet leads
 far_is : (all : List Port) (l : ℕ) (p : Port) → p.interface.kind ≡ PointToPoint → (m : ℕ) (q : Port) →
     place_from 0 (is_other p) (linked all) ≡ Some m → slice_get (linked all) m ≡ Some q →
-    far_of all p p.interface.kind ≡ ToRouter q.router
+    far_among (linked all) (transit_subnets all) p p.interface.kind ≡ ToRouter q.router
 far_is all l p kind m q place at =
-    ap (far_of all p) kind ∙ ap (λ o. ToRouter (router_at (linked all) o)) place ∙ ap ToRouter (router_at_is (linked all) m q at)
+    ap (far_among (linked all) (transit_subnets all) p) kind ∙ ap (λ o. ToRouter (router_at (linked all) o)) place ∙
+    ap ToRouter (router_at_is (linked all) m q at)
 
 -- each link has its other end, or leads to a subnet and has none
 link_has_link_back : (area : ℕ) (routers : List Router) → IsSound (0 + length routers) (ports area routers) →
     (l : ℕ) (p : Port) → slice_get (linked (ports area routers)) l ≡ Some p →
     HasLinkBack (database_of area routers) l (link_of (ports area routers) p)
-    (far_of (ports area routers) p p.interface.kind) (link_back_of (ports area routers) p p.interface.kind)
+    (far_among (linked (ports area routers)) (transit_subnets (ports area routers)) p p.interface.kind)
+    (link_back_among (linked (ports area routers)) p p.interface.kind)
 link_has_link_back area routers sound l p at = by_kind p.interface.kind refl
   where
     by_kind : (kind : Kind) → p.interface.kind ≡ kind →
-        HasLinkBack (database_of area routers) l (link_of (ports area routers) p) (far_of (ports area routers) p kind)
-        (link_back_of (ports area routers) p kind)
+        HasLinkBack (database_of area routers) l (link_of (ports area routers) p)
+        (far_among (linked (ports area routers)) (transit_subnets (ports area routers)) p kind)
+        (link_back_among (linked (ports area routers)) p kind)
     by_kind PointToPoint is =
         let all = ports area routers in
         let m = link_back_found (0 + length routers) all sound l p at is in
-        let other : IsLinkBackOf l (link_of all p) (Some (link_of all m.port)) =
-        (ap (link_back_of all m.port) m.kind ∙ m.back, far_is all l p is m.place m.port m.forth m.at, far_is all m.place m.port m.kind l p m.back at) in
+        let other : IsLinkBackOf l (link_of all p) (Some (link_of all m.port)) = (
+          ap (link_back_among (linked all) m.port) m.kind ∙ m.back,
+          far_is all l p is m.place m.port m.forth m.at,
+          far_is all m.place m.port m.kind l p m.back at,
+        ) in
         subst (λ o. HasLinkBack (database_of area routers) l (link_of all p) (ToRouter (router_at (linked all) o)) o) (sym m.forth)
         (m.apart, subst (IsLinkBackOf l (link_of all p)) (sym (at_map (link_of all) (linked all) m.place m.port m.at)) other)
     by_kind Broadcast is = tt
 
 link_is_far : (area : ℕ) (routers : List Router) → IsSound (0 + length routers) (ports area routers) →
     (l : ℕ) (p : Port) → slice_get (linked (ports area routers)) l ≡ Some p →
-    IsFar (database_of area routers) (far_of (ports area routers) p p.interface.kind)
+    IsFar (database_of area routers) (far_among (linked (ports area routers)) (transit_subnets (ports area routers)) p p.interface.kind)
 link_is_far area routers sound l p at = by_kind p.interface.kind refl
   where
-    by_kind : (kind : Kind) → p.interface.kind ≡ kind → IsFar (database_of area routers) (far_of (ports area routers) p kind)
+    by_kind : (kind : Kind) → p.interface.kind ≡ kind →
+        IsFar (database_of area routers) (far_among (linked (ports area routers)) (transit_subnets (ports area routers)) p kind)
     by_kind PointToPoint is =
         let all = ports area routers in
         let m = link_back_found (0 + length routers) all sound l p at is in

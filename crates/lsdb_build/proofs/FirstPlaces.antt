@@ -132,10 +132,3 @@ pub filter_passed : {X : Type 0} (f : X → Bool) (xs : List X) (i : ℕ) (x : X
 filter_passed f xs i x within is fails =
     filter_more f xs i x within ∙ ap (λ y. filter f (take i xs) ++ cond (f y) (y ∷ []) []) (sym is)
     ∙ ap (λ b. filter f (take i xs) ++ cond b (x ∷ []) []) fails ∙ append-nil (filter f (take i xs))
-
--- the images of the first so many, with that of one more
-pub map_put : {X Y : Type 0} (f : X → Y) (xs : List X) (i : ℕ) (x : X) → i < length xs → x ≡ get_or xs i x →
-    (made : List Y) → made ≡ map f (take i xs) → (y : Y) → y ≡ f x → (more : List Y) → more ≡ made ++ y ∷ [] → more ≡ map f (take (i + 1) xs)
-map_put f xs i x within is made are y y_is more added =
-    added ∙ ap (λ ys. ys ++ y ∷ []) are ∙ ap (λ z. map f (take i xs) ++ z ∷ []) (y_is ∙ ap f is)
-    ∙ sym (ap (map f) (take_more xs i x within) ∙ map-append f (take i xs) (get_or xs i x ∷ []))

@@ -1,10 +1,9 @@
 -- Pairs of a list's elements, and the places of those that pass a test.
-use Rattle.std.proofs.Common.{◌≡◌, ◌≢◌, ℕ, zero, suc, ◌+◌, ◌<◌, ◌++◌, ◌⊎◌, inl, inr, Bool, true, false, cond, List, [], ◌∷◌, Some, get_or, map, count_by, refl, sym, ap, ◌∙◌, subst, arith, slice_get, All, AllPairs}
+use Rattle.std.proofs.Common.{◌≡◌, ◌≢◌, ℕ, zero, suc, ◌+◌, ◌<◌, ◌⊎◌, inl, inr, Bool, true, false, cond, List, [], ◌∷◌, Some, get_or, map, count_by, refl, sym, ap, ◌∙◌, subst, arith, slice_get, All, AllPairs}
 use Rattle.std.specs.List.{filter}
 use Rattle.std.proofs.lemmas.Bool.{false≢true, cases_Bool}
 use Rattle.std.proofs.lemmas.Option.{none-some, same_Some, slice_get_within, get_or_from_slice_get, slice_get-get_or}
-use Rattle.std.proofs.lemmas.List.Elements.{All-head, All-tail, All-append}
-use Rattle.std.proofs.lemmas.List.Kept.{AllPairs-cons}
+use Rattle.std.proofs.lemmas.List.Elements.{All-head, All-tail}
 use Rattle.std.proofs.lemmas.List.Sums.{sum_by-cons}
 
 -- what holds of each element holds of the one at a place
@@ -22,22 +21,6 @@ pair_at R xs pairs i j x y below at_i at_j =
     subst (λ v. R v y) (get_or_from_slice_get xs i x x at_i)
     (subst (λ v. R (get_or xs i x) v) (get_or_from_slice_get xs j y x at_j)
     (pairs i j x below (slice_get_within xs j y at_j)))
-
-pub pairs_nil : {X : Type 0} (R : X → X → Type 0) → AllPairs R []
-pairs_nil R = λ i j d below within. absurd (omega arith)
-
-pub pairs_head : {X : Type 0} (R : X → X → Type 0) (x : X) (xs : List X) → AllPairs R (x ∷ xs) → All (R x) xs
-pairs_head R x xs pairs = λ k d within. pairs 0 (suc k) d (omega arith) (omega arith)
-
-pub pairs_tail : {X : Type 0} (R : X → X → Type 0) (x : X) (xs : List X) → AllPairs R (x ∷ xs) → AllPairs R xs
-pairs_tail R x xs pairs = λ i j d below within. pairs (suc i) (suc j) d (omega arith) (omega arith)
-
--- pairs of two lists, one after the other
-pub pairs_append : {X : Type 0} (R : X → X → Type 0) (xs ys : List X) → AllPairs R xs → AllPairs R ys → All (λ x. All (R x) ys) xs → AllPairs R (xs ++ ys)
-pairs_append R [] ys first second across = second
-pairs_append R (x ∷ xs) ys first second across =
-    AllPairs-cons R x (xs ++ ys) (All-append (R x) xs ys (pairs_head R x xs first) (All-head (λ v. All (R v) ys) x xs across))
-    (pairs_append R xs ys (pairs_tail R x xs first) second (All-tail (λ v. All (R v) ys) x xs across))
 
 pub pairs_weaker : {X : Type 0} (R S : X → X → Type 0) → ((x y : X) → R x y → S x y) → (xs : List X) → AllPairs R xs → AllPairs S xs
 pairs_weaker R S then xs pairs = λ i j d below within. then (get_or xs i d) (get_or xs j d) (pairs i j d below within)

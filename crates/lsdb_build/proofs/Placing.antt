@@ -82,7 +82,8 @@ abbrev pub first_passing : (Port → Bool) → List Port → List ℕ → Option
 first_passing test ports [] = None
 first_passing test ports (place ∷ places) = cond (passes test (slice_get ports place)) (Some place) (first_passing test ports places)
 
--- where each interface that passes the test is among those of the places, the first of the places that passes is the first of all
+-- where each interface that passes the test is among those of the places, the first of the places that passes is the
+-- first of all
 passing_first : (test wide : Port → Bool) → ((p : Port) → wide p ≡ false → test p ≡ false) →
     (ports : List Port) (n : ℕ) (xs : List Port) → ((k : ℕ) → slice_get ports (n + k) ≡ slice_get xs k) →
     first_passing test ports (places_from n wide xs) ≡ place_from n test xs

@@ -7,13 +7,13 @@ use Rattle.std.proofs.lemmas.List.Elements.{All-nil, All-cons, All-head, All-tai
 use Rattle.std.proofs.lemmas.List.Kept.{AllPairs-cons}
 use Rattle.cost_base.specs.Lists.{same_bytes}
 use Rattle.cost_base.proofs.ByteLemmas.{same_bytes-refl}
+use Rattle.cost_base.proofs.ListLemmas.{pairs_nil, pairs_head, pairs_tail, pairs_append, cond-none}
 use Rattle.interface_model.specs.declared.Interface.{Interface}
 use Rattle.interface_model.specs.Records.{Router, IsInterface, IsRouter}
 use Rattle.interface_model.specs.Addresses.{is_active}
 use Rattle.lsdb_build.specs.declared.fault.TopologyFault.{TopologyFault}
 use Rattle.lsdb_build.specs.Neighbours.{Port, port_of, ports_of, ports_from}
 use Rattle.lsdb_build.specs.Topology.{FaultyPlace, first_some, at_port, at_config, past, second_of_name}
-use Rattle.lsdb_build.proofs.Pairs.{pairs_nil, pairs_head, pairs_tail, pairs_append}
 
 -- what an active interface keeps: its router is one of those from a number on, and it is as the model says
 pub record IsPortFrom (low high : ℕ) (p : Port) : Type 0 where
@@ -135,14 +135,10 @@ pub record NamesDiffer (before : List (List ℕ)) (routers : List Router) : Type
   pub fresh : All (λ r. list_any (same_bytes r) before ≡ false) (map (λ r. r.name) routers)
   pub pairs : AllPairs (λ a b. a ≢ b) (map (λ r. r.name) routers)
 
-name_step : (n : ℕ) (b : Bool) (rest : Option ℕ) → cond b (Some n) rest ≡ None → (b ≡ false) × (rest ≡ None)
-name_step n true rest h = absurd (none-some n (sym h))
-name_step n false rest h = (refl, h)
-
 pub names_differ : (before : List (List ℕ)) (n : ℕ) (routers : List Router) → second_of_name before n routers ≡ None → NamesDiffer before routers
 names_differ before n [] h = record { fresh = All-nil (λ r. list_any (same_bytes r) before ≡ false); pairs = pairs_nil (λ a b. a ≢ b) }
 names_differ before n (r ∷ routers) h =
-    let step = name_step n (list_any (same_bytes r.name) before) (second_of_name (r.name ∷ before) (n + 1) routers) h in
+    let step = cond-none (list_any (same_bytes r.name) before) n (second_of_name (r.name ∷ before) (n + 1) routers) h in
     let rest = names_differ (r.name ∷ before) (n + 1) routers step.1 in
     let names = map (λ (x : Router). x.name) routers in
     record {

@@ -1,5 +1,5 @@
--- The topology of an area doesn't depend on the interfaces' costs: with other costs the database has other costs, and nothing else changes;
--- and the first fault is the same.
+-- The topology of an area doesn't depend on the interfaces' costs: with other costs the database has other costs, and
+-- nothing else changes; and the first fault is the same.
 use Rattle.std.proofs.Common.{◌≡◌, ℕ, zero, suc, ◌+◌, refl, sym, ◌∙◌, ap, List, [], ◌∷◌, ◌++◌, length, map, Bool, true, false, cond, Option, Some, None}
 use Rattle.std.specs.Prelude.{filter, unwrap_or, not, slice_get, ◌&&◌, ◌||◌, ◌==◌, nat_le}
 use Rattle.std.specs.List.{list_any}
@@ -26,7 +26,8 @@ use Rattle.lsdb_build.specs.Neighbours.{Port, port_of, ports_of, ports_from, por
 use Rattle.lsdb_build.specs.Graphs.{Database, graph_at, far_vertex, link_edges, subnet_edges, router_of}
 use Rattle.lsdb_build.specs.declared.fault.TopologyFault.{TopologyFault}
 use Rattle.lsdb_build.specs.declared.fault.TopologyFault.TheVariants.{TooMany, NameTwice, SameRouterTwice, AddressTwice, TypeMismatch, CrowdedLink, NoDesignated, OverlapPrefix}
-use Rattle.lsdb_build.specs.Topology.{FaultyPlace, router_at, far_of, link_back_of, link_of, places_from, database_of, first_where, first_some, at_port, at_config, past, second_of_name, is_second_of_router, is_second_of_address, same_kind, is_mismatch, is_crowding, lacks_designated, holds, is_overlap, topology_fault}
+use Rattle.lsdb_build.specs.Topology.{FaultyPlace, link_of, places_from, database_of, first_where, first_some, at_port, at_config, past, second_of_name, is_second_of_router, is_second_of_address, same_kind, is_mismatch, is_crowding, lacks_designated, holds, is_overlap, topology_fault}
+use Rattle.lsdb_build.specs.Links.{router_at, far_among, link_back_among}
 
 -- New costs: by the router's number, the interface's name and the cost of before.
 
@@ -126,7 +127,8 @@ router_is c links None = refl
 router_is c links (Some l) = router_some c links l
 
 far_is : (c : ℕ → List ℕ → Option ℕ → Option ℕ) (all : List Port) (p : Port) (kind : Kind) →
-    far_of (map (recosted_port c) all) (recosted_port c p) kind ≡ far_of all p kind
+    far_among (linked (map (recosted_port c) all)) (transit_subnets (map (recosted_port c) all)) (recosted_port c p) kind
+    ≡ far_among (linked all) (transit_subnets all) p kind
 far_is c all p PointToPoint =
     rw (linked_is c all, place_is (recosted_port c) (is_other (recosted_port c p)) 0 (linked all))
     (ap ToRouter (router_is c (linked all) (place_from 0 (is_other p) (linked all))))
@@ -134,7 +136,7 @@ far_is c all p Broadcast =
     rw (transit_is c all) (ap (λ o. ToSubnet (unwrap_or o 0)) (place_is (recosted_port c) (shares_subnet (recosted_port c p)) 0 (transit_subnets all)))
 
 link_back_is : (c : ℕ → List ℕ → Option ℕ → Option ℕ) (all : List Port) (p : Port) (kind : Kind) →
-    link_back_of (map (recosted_port c) all) (recosted_port c p) kind ≡ link_back_of all p kind
+    link_back_among (linked (map (recosted_port c) all)) (recosted_port c p) kind ≡ link_back_among (linked all) p kind
 link_back_is c all p PointToPoint = rw (linked_is c all) (place_is (recosted_port c) (is_other (recosted_port c p)) 0 (linked all))
 link_back_is c all p Broadcast = refl
 
@@ -147,8 +149,9 @@ link_is : (c : ℕ → List ℕ → Option ℕ → Option ℕ) (all : List Port)
     link_of (map (recosted_port c) all) (recosted_port c p) ≡ recosted_link c (link_of all p)
 link_is c all p =
     link_parts p.router p.interface.line p.interface.name (c p.router p.interface.name p.interface.cost)
-    (far_of (map (recosted_port c) all) (recosted_port c p) p.interface.kind) (far_of all p p.interface.kind)
-    (link_back_of (map (recosted_port c) all) (recosted_port c p) p.interface.kind) (link_back_of all p p.interface.kind)
+    (far_among (linked (map (recosted_port c) all)) (transit_subnets (map (recosted_port c) all)) (recosted_port c p) p.interface.kind)
+    (far_among (linked all) (transit_subnets all) p p.interface.kind)
+    (link_back_among (linked (map (recosted_port c) all)) (recosted_port c p) p.interface.kind) (link_back_among (linked all) p p.interface.kind)
     (far_is c all p p.interface.kind) (link_back_is c all p p.interface.kind)
 
 names_are : (c : ℕ → List ℕ → Option ℕ → Option ℕ) (n : ℕ) (routers : List Router) → map (λ r. r.name) (recosted_from c n routers) ≡ map (λ r. r.name) routers

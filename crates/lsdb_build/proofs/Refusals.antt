@@ -9,7 +9,7 @@ use Rattle.lsdb_build.specs.declared.fault.TopologyFault.{TopologyFault}
 use Rattle.lsdb_build.specs.Neighbours.{Port, ports, linked, transit_subnets, shares_subnet}
 use Rattle.lsdb_build.specs.Graphs.{IsAreaDatabase}
 use Rattle.lsdb_build.specs.Topology.{FaultyPlace, is_second_of_router, is_second_of_address, is_mismatch, is_crowding, is_overlap, lacks_designated, first_where, at_port, at_config, past, second_of_name, first_some, topology_fault, places_from, Tells}
-use Rattle.lsdb_build.specs.Checks.{link_among}
+use Rattle.lsdb_build.specs.Links.{link_among}
 use Rattle.lsdb_build.specs.declared.fault.TopologyFault.TheVariants.{TooMany, NameTwice, SameRouterTwice, AddressTwice, TypeMismatch, CrowdedLink, NoDesignated, OverlapPrefix}
 use Rattle.lsdb_build.proofs.Databases.{database_is, linked_length, transit_length}
 
@@ -44,7 +44,8 @@ first_some-some : (f : Option FaultyPlace) (more : List (Option FaultyPlace)) (f
 first_some-some None more fault h = absurd (none-some fault h)
 first_some-some (Some other) more fault h = h
 
-tells_first : (f : Option FaultyPlace) (more : List (Option FaultyPlace)) (stop : Refusal TopologyFault ConfigLine) → Tells f stop → Tells (first_some (f ∷ more)) stop
+tells_first : (f : Option FaultyPlace) (more : List (Option FaultyPlace)) (stop : Refusal TopologyFault ConfigLine) → Tells f stop →
+    Tells (first_some (f ∷ more)) stop
 tells_first f more (Refused fault place) h = first_some-some f more (record { fault = fault; config = place.config; line = place.line }) h
 tells_first f more OutOfMemory h = tt
 

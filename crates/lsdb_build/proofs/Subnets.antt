@@ -1,17 +1,17 @@
 -- Interfaces on one subnet, and the first members of transit subnets.
-use Rattle.std.proofs.Common.{◌≡◌, ℕ, zero, suc, ◌+◌, ◌<◌, ◌≤◌, ◌⊎◌, inl, inr, Bool, true, false, cond, ◌||◌, ◌&&◌, not, eqb, eq-eqb, List, [], ◌∷◌, Option, Some, None, length, refl, sym, ap, ◌∙◌, arith, slice_get, All, AllPairs}
+use Rattle.std.proofs.Common.{◌≡◌, ℕ, zero, suc, ◌+◌, ◌<◌, ◌≤◌, ◌⊎◌, inl, inr, Bool, true, false, cond, ◌||◌, ◌&&◌, not, eqb, eq-eqb, List, [], ◌∷◌, Some, None, length, refl, sym, ap, ◌∙◌, arith, slice_get, All, AllPairs}
 use Rattle.std.specs.List.{list_any}
 use Rattle.std.proofs.lemmas.Bool.{false≢true, or_parts, and_parts, and_from, cases_Bool, eqb-true, false_from_ne_true, not-true, cases_order}
 use Rattle.std.proofs.lemmas.Option.{none-some, same_Some}
 use Rattle.std.proofs.lemmas.List.Elements.{All-nil, All-cons, All-head, All-tail, All-weaker}
 use Rattle.std.proofs.lemmas.List.Kept.{AllPairs-cons}
-use Rattle.cost_base.proofs.ListLemmas.{same_test}
+use Rattle.cost_base.proofs.ListLemmas.{same_test, pairs_nil, cond-none}
 use Rattle.interface_model.specs.declared.Kind.{Kind}
 use Rattle.interface_model.specs.declared.Kind.TheVariants.{PointToPoint, Broadcast}
 use Rattle.interface_model.specs.Addresses.{subnet}
 use Rattle.lsdb_build.specs.Neighbours.{Port, shares_subnet, is_broadcast, first_members, place_from}
 use Rattle.lsdb_build.specs.Topology.{first_where, same_kind}
-use Rattle.lsdb_build.proofs.Pairs.{pair_at, pairs_nil}
+use Rattle.lsdb_build.proofs.Pairs.{pair_at}
 
 -- what it means to share a subnet
 pub record OneSubnet (p q : Port) : Type 0 where
@@ -53,15 +53,10 @@ pub record NonePasses (t : Port → Port → Bool) (before xs : List Port) : Typ
   pub across : All (λ p. list_any (λ q. t q p) before ≡ false) xs
   pub pairs : AllPairs (λ a b. t a b ≡ false) xs
 
-first_step : (t : Port → Port → Bool) (before : List Port) (p : Port) (b : Bool) (rest : Option Port) →
-    cond b (Some p) rest ≡ None → (b ≡ false) × (rest ≡ None)
-first_step t before p true rest h = absurd (none-some p (sym h))
-first_step t before p false rest h = (refl, h)
-
 pub none_passes : (t : Port → Port → Bool) (before xs : List Port) → first_where (λ b p. list_any (λ q. t q p) b) before xs ≡ None → NonePasses t before xs
 none_passes t before [] h = record { across = All-nil (λ p. list_any (λ q. t q p) before ≡ false); pairs = pairs_nil (λ a b. t a b ≡ false) }
 none_passes t before (p ∷ xs) h =
-    let step = first_step t before p (list_any (λ q. t q p) before) (first_where (λ b v. list_any (λ q. t q v) b) (p ∷ before) xs) h in
+    let step = cond-none (list_any (λ q. t q p) before) p (first_where (λ b v. list_any (λ q. t q v) b) (p ∷ before) xs) h in
     let rest = none_passes t (p ∷ before) xs step.1 in
     record {
       across = All-cons (λ v. list_any (λ q. t q v) before ≡ false) p xs step.0

@@ -3,7 +3,7 @@ use Rattle.std.specs.Prelude.{ℕ}
 use Rattle.lsdb_build.specs.declared.fault.TopologyFault.{TopologyFault}
 use Rattle.lsdb_build.specs.declared.fault.TopologyFault.TheVariants.{NameTwice, AddressTwice, TypeMismatch, CrowdedLink, SameRouterTwice, NoDesignated, OverlapPrefix, TooMany}
 
--- the number of a fault
+-- the number of a fault of a topology
 abbrev pub topology_fault_number : TopologyFault → ℕ
 topology_fault_number NameTwice = 10
 topology_fault_number AddressTwice = 11

@@ -1,5 +1,5 @@
 -- The checks of a topology, and the database of an area.
-use Rattle.std.specs.Prelude.{◌≡◌, ℕ, ◌+◌, List, [], ◌∷◌, map, ◌==◌, ◌&&◌, ◌||◌, nat_le, nat_lt, not, if◌then◌else◌, Bool, true, false, Option, Some, None, length, count_by, slice_get, unwrap_or}
+use Rattle.std.specs.Prelude.{◌≡◌, ℕ, ◌+◌, List, [], ◌∷◌, map, ◌==◌, ◌&&◌, ◌||◌, nat_le, nat_lt, not, if◌then◌else◌, Bool, true, false, Option, Some, None, length, count_by, slice_get}
 use Rattle.std.specs.List.{list_any, list_all}
 use Rattle.cost_base.specs.Lists.{same_bytes}
 use Rattle.cost_base.specs.declared.refusal.Refusal.{Refusal}
@@ -8,14 +8,13 @@ use Rattle.interface_model.specs.declared.Kind.{Kind}
 use Rattle.interface_model.specs.declared.Kind.TheVariants.{PointToPoint, Broadcast}
 use Rattle.interface_model.specs.Addresses.{contains}
 use Rattle.interface_model.specs.Records.{Router}
-use Rattle.lsdb_build.specs.declared.Far.{Far}
-use Rattle.lsdb_build.specs.declared.Far.TheVariants.{Router as ToRouter, Subnet as ToSubnet}
 use Rattle.lsdb_build.specs.declared.Linked.{Linked}
-use Rattle.lsdb_build.specs.Neighbours.{Port, ports, shares_subnet, linked, transit_subnets, is_broadcast, place_from, is_other}
+use Rattle.lsdb_build.specs.Neighbours.{Port, ports, shares_subnet, linked, transit_subnets, is_broadcast}
 use Rattle.lsdb_build.specs.declared.fault.TopologyFault.TheVariants.{TooMany, NameTwice, SameRouterTwice, AddressTwice, TypeMismatch, CrowdedLink, NoDesignated, OverlapPrefix}
 use Rattle.lsdb_build.specs.declared.fault.TopologyFault.{TopologyFault}
 use Rattle.lsdb_build.specs.declared.fault.ConfigLine.{ConfigLine}
 use Rattle.lsdb_build.specs.Graphs.{Database}
+use Rattle.lsdb_build.specs.Links.{link_among}
 
 -- a fault of a topology, with the configuration and the line of its place
 pub record FaultyPlace : Type 0 where
@@ -52,7 +51,8 @@ is_crowding before p = not (is_broadcast p) && nat_le 2 (count_by (λ q. shares_
 abbrev pub holds : Port → Port → Bool
 holds p q = nat_le p.interface.length q.interface.length && contains p.address p.interface.length q.address
 
--- an interface before this one is of another router and on another subnet, and one of the two subnets contains the other
+-- an interface before this one is of another router and on another subnet, and one of the two subnets contains the
+-- other
 abbrev pub is_overlap : List Port → Port → Bool
 is_overlap before p =
     list_any (λ q. not (q.router == p.router) && not (shares_subnet q p) && (holds q p || holds p q)) before
@@ -113,36 +113,9 @@ abbrev pub Tells : Option FaultyPlace → Refusal TopologyFault ConfigLine → T
 Tells found (Refused fault place) = found ≡ Some (record { fault = fault; config = place.config; line = place.line })
 Tells found OutOfMemory = Unit {0}
 
--- the router of the link at a place; 0 where there is none
-abbrev pub router_at : List Port → Option ℕ → ℕ
-router_at links None = 0
-router_at links (Some l) = router_of_port (slice_get links l)
-  where
-    router_of_port : Option Port → ℕ
-    router_of_port None = 0
-    router_of_port (Some p) = p.router
-
--- where a link leads: over a point-to-point subnet to the other member's router, else into the transit subnet
-abbrev pub far_of : List Port → Port → Kind → Far
-far_of all p PointToPoint = ToRouter (router_at (linked all) (place_from 0 (is_other p) (linked all)))
-far_of all p Broadcast = ToSubnet (unwrap_or (place_from 0 (shares_subnet p) (transit_subnets all)) 0)
-
--- the number of the link back of an interface, where it is on a point-to-point subnet
-abbrev pub link_back_of : List Port → Port → Kind → Option ℕ
-link_back_of all p PointToPoint = place_from 0 (is_other p) (linked all)
-link_back_of all p Broadcast = None
-
--- the link of an interface: its router, name, line and cost, where it leads, and the link that leads back
+-- the link of an interface among all linked interfaces and the first members of all transit subnets
 abbrev pub link_of : List Port → Port → Linked
-link_of all p =
-    record {
-      router = p.router;
-      interface = p.interface.name;
-      line = p.interface.line;
-      cost = p.interface.cost;
-      to = far_of all p p.interface.kind;
-      link_back = link_back_of all p p.interface.kind;
-    }
+link_of all p = link_among (linked all) (transit_subnets all) p
 
 -- the places of the interfaces that pass
 abbrev pub places_from : ℕ → (Port → Bool) → List Port → List ℕ

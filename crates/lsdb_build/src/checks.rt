@@ -27,13 +27,13 @@ pub fn refusal_at(fault: TopologyFault, port: &Port) -> Refusal<TopologyFault, C
     ensures { result ≡ Refusal.Refused fault
         (record { config = port.now.router; line = port.now.interface.line }) }
 {
-    Refusal::Refused {
-        fault,
-        place: ConfigLine {
+    Refusal::at(
+        ConfigLine {
             config: port.router,
             line: port.interface.line,
         },
-    }
+        fault,
+    )
 }
 
 /// A router on a subnet.
@@ -222,13 +222,13 @@ pub fn refuse_many_configs(
         (λ _. 1000 < length configs.now) }
 {
     if configs.len() > MOST_ROUTERS {
-        return Err(Refusal::Refused {
-            fault: TopologyFault::TooMany,
-            place: ConfigLine {
+        return Err(Refusal::at(
+            ConfigLine {
                 config: MOST_ROUTERS as u32,
                 line: 0,
             },
-        });
+            TopologyFault::TooMany,
+        ));
     }
     Ok(())
 }
@@ -270,13 +270,13 @@ fn refuse_seen_name<'a>(
 {
     for (i, config) in configs.iter().enumerate() {
         if !see(seen, &config.name)? {
-            return Err(Refusal::Refused {
-                fault: TopologyFault::NameTwice,
-                place: ConfigLine {
+            return Err(Refusal::at(
+                ConfigLine {
                     config: i as u32,
                     line: 0,
                 },
-            });
+                TopologyFault::NameTwice,
+            ));
         }
     }
     Ok(())

@@ -2,10 +2,10 @@
 ghost use Rattle.std.specs.Prelude.{◌≡◌, ◌<◌, ◌≤◌, ◌&&◌, not, List, [], length, map, slice_get, IfOk};
 ghost use Rattle.std.specs.List.{list_any};
 ghost use Rattle.lsdb_build.specs.Neighbours.{Port, is_linked_kind, is_linked, linked, is_broadcast, first_members, shares_subnet, is_other, place_from};
-ghost use Rattle.lsdb_build.specs.Topology.{places_from, router_at};
+ghost use Rattle.lsdb_build.specs.Topology.{places_from};
 ghost use Rattle.lsdb_build.specs.Tallies.{IsTally, same_subnet, subnet_of};
 ghost use Rattle.lsdb_build.specs.Places.{ArePlaces, places_at, passes};
-ghost use Rattle.lsdb_build.specs.Checks.{far_among, link_back_among, link_among};
+ghost use Rattle.lsdb_build.specs.Links.{router_at, far_among, link_back_among, link_among};
 
 use crate::members::{count_members, members_on};
 use crate::places::{Places, places_of};
@@ -43,8 +43,8 @@ pub fn linked_ports<'a>(alloc: Global, ports: &[Port<'a>]) -> Result<Vec<Port<'a
     let members = count_members(alloc, ports)?;
     let mut found = Vec::new(alloc);
     for port in ports {
-        if is_linked(&members, port) && found.push(port.again()).is_err() {
-            return Err(OutOfMemory);
+        if is_linked(&members, port) {
+            found.push(port.again())?;
         }
     }
     Ok(found)
@@ -72,8 +72,8 @@ fn first_ports<'a>(
 {
     let mut found = Vec::new(alloc);
     for port in links {
-        if is_first_member(seen, port) && found.push(port.again()).is_err() {
-            return Err(OutOfMemory);
+        if is_first_member(seen, port) {
+            found.push(port.again())?;
         }
         seen.add(subnet_of(port))?;
     }

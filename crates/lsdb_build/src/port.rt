@@ -4,7 +4,7 @@ ghost use Rattle.interface_model.specs.Records.{IsRouter};
 ghost use Rattle.lsdb_build.specs.Neighbours.{port_of, ports_of, ports, shares_subnet, is_broadcast};
 ghost use Rattle.lsdb_build.specs.Tallies.{subnet_of};
 
-use cost_base::OutOfMemory;
+use cost_base::{OutOfMemory, push_some};
 use interface_model::{Interface, Kind, RouterConfig, is_active, subnet};
 use std::alloc::Global;
 use std::marker::Model;
@@ -71,9 +71,7 @@ fn push_ports<'a>(
     ensures valid { IsRouter config.now }
 {
     for interface in config.interfaces.as_slice() {
-        if let Some(port) = port_of(interface, router, area) {
-            into.push(port)?;
-        }
+        push_some(into, port_of(interface, router, area))?;
     }
     Ok(())
 }

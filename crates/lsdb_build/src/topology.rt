@@ -4,7 +4,7 @@ ghost use Rattle.lsdb_build.specs.Neighbours.{shares_subnet};
 ghost use Rattle.lsdb_build.specs.Topology.{topology_fault, database_of, places_from, first_some, at_port, at_config, first_where, second_of_name};
 ghost use Rattle.lsdb_build.specs.Topology.{is_second_of_router, is_second_of_address, is_mismatch, is_crowding, Tells};
 ghost use Rattle.lsdb_build.specs.Graphs.{IsAreaDatabase};
-ghost use Rattle.lsdb_build.specs.Checks.{link_among};
+ghost use Rattle.lsdb_build.specs.Links.{link_among};
 ghost use Rattle.lsdb_build.specs.declared.fault.TopologyFault.TheVariants.{TooMany, NameTwice, SameRouterTwice, AddressTwice, TypeMismatch, CrowdedLink};
 
 use crate::checks::{

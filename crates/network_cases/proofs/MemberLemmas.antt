@@ -11,7 +11,7 @@ use Rattle.area_graph.specs.Paths.{IsPathOf}
 use Rattle.design_problem.specs.declared.problem.Request.{Request}
 use Rattle.design_problem.specs.Problems.{request_ends}
 use Rattle.set_separation.specs.declared.prefix_tree.Step.{Step}
-use Rattle.set_separation.specs.Departures.{IsTiedTree}
+use Rattle.set_separation.specs.Deviations.{IsTiedTree}
 use Rattle.set_separation.specs.PrefixTrees.{IsGrown}
 use Rattle.set_separation.proofs.GrownTrees.{grown_first}
 use Rattle.network_cases.specs.Members.{TiesWith, wanted_of}

@@ -6,10 +6,24 @@ use crate::paths::{avoids_text, copy_text, only_text, path_text, vertex_text};
 use crate::rivals::rival_text;
 use crate::searches::{new_room_text, search_text};
 use area_graph::Graph;
-use case_scripts::next_word;
+use case_scripts::{Script, next_word};
 use cost_base::OutOfMemory;
 use std::alloc::{AllocError, Global};
+use std::io;
 use std::str::SplitWhitespace;
+
+/// The graph at hand.
+#[derive(Drop)]
+pub struct Scene {
+    network: Option<Graph>,
+}
+
+impl Scene {
+    /// No graph.
+    pub(crate) fn new() -> Scene {
+        Scene { network: None }
+    }
+}
 
 /// What is answered to a line that begins with this word and asks of a graph. Any other line is a comment.
 fn asked(
@@ -46,13 +60,8 @@ fn start(
     said(alloc, told)
 }
 
-/// What is answered to a line, to stand behind it: `graph` takes another graph, and the other words ask of the
-/// one at hand.
-pub(crate) fn answer(
-    alloc: Global,
-    network: &mut Option<Graph>,
-    line: &str,
-) -> Result<String, AllocError> {
+/// What is answered to a line: `graph` takes another graph, and the other words ask of the one at hand.
+fn reply(alloc: Global, network: &mut Option<Graph>, line: &str) -> Result<String, AllocError> {
     let mut words = line.split_whitespace();
     let first = next_word(&mut words);
     let text = match network {
@@ -61,4 +70,10 @@ pub(crate) fn answer(
         None => said(alloc, ""),
     };
     text.map_err(|_| AllocError)
+}
+
+impl Script for Scene {
+    fn answer(&mut self, alloc: Global, line: &str) -> io::Result<String> {
+        Ok(reply(alloc, &mut self.network, line)?)
+    }
 }

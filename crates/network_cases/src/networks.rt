@@ -1,6 +1,6 @@
 //! The graph and the points of a script.
 
-use area_graph::{Edge, Graph, Point, Price, Vertex, fits_graph};
+use area_graph::{Edge, Graph, Point, Price, fits_graph, vertices_of};
 use case_scripts::{list_of, next_number};
 use cost_base::{Listed, OutOfMemory};
 use std::alloc::{AllocError, Global};
@@ -33,18 +33,6 @@ fn edge(word: &str) -> Option<Edge> {
     })
 }
 
-/// So many routers, and then so many subnets.
-fn vertices(alloc: Global, routers: u32, subnets: u32) -> Result<Vec<Vertex>, AllocError> {
-    let mut vertices = Vec::new(alloc);
-    for number in 0..routers {
-        vertices.push(Vertex::Router(number))?;
-    }
-    for number in 0..subnets {
-        vertices.push(Vertex::Subnet(number))?;
-    }
-    Ok(vertices)
-}
-
 /// The edges of the other words; none where a word is none.
 fn edges(alloc: Global, words: &mut SplitWhitespace<'_>) -> Result<Option<Vec<Edge>>, AllocError> {
     let mut edges = Vec::new(alloc);
@@ -67,7 +55,7 @@ pub(crate) fn graph(
     let Some(edges) = edges(alloc, words)? else {
         return Ok(None);
     };
-    let vertices = vertices(alloc, routers, subnets)?;
+    let vertices = vertices_of(alloc, routers, subnets)?;
     if !fits_graph(vertices.as_slice(), edges.as_slice()) {
         return Ok(None);
     }

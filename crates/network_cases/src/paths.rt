@@ -2,8 +2,8 @@
 
 use crate::networks::{point, said};
 use area_graph::{
-    Graph, Path, Point, WantedPath, avoids, is_only_cheapest, is_path_of, is_simple, path_cost,
-    point_fits,
+    BorrowedRequest, Graph, Path, Point, avoids, is_only_cheapest, is_path_of, is_simple,
+    path_cost, point_fits,
 };
 use case_scripts::{Written, next_number, next_numbers, next_word};
 use cost_base::{Listed, OutOfMemory};
@@ -110,7 +110,7 @@ fn only_at(
     request: &Request,
     point: &Point,
 ) -> Result<String, OutOfMemory> {
-    let wanted = WantedPath {
+    let wanted = BorrowedRequest {
         path: &request.path,
         end: request.end,
         excluded: request.excluded.as_slice(),

@@ -22,7 +22,7 @@ impl Advisor for TurnsBad {
 
     ghost after = { λ state _. state };
 
-    fn pick(&mut self, _choices: &[Candidate]) -> u32 {
+    fn pick(&mut self, _candidates: &[Candidate]) -> u32 {
         if self.bad {
             4000
         } else {
@@ -52,7 +52,7 @@ impl Advisor for Counts {
 
     ghost after = { λ state _. min (slice_index state 0 + 1) (2 ^ 32 - 1) ∷ [] };
 
-    fn pick(&mut self, _choices: &[Candidate]) -> u32 {
+    fn pick(&mut self, _candidates: &[Candidate]) -> u32 {
         self.told
     }
 
@@ -77,10 +77,10 @@ fn chosen_text(
     calls: u32,
     advisors: &mut Vec<Box<dyn Advisor>>,
 ) -> Result<String, AllocError> {
-    let choices = [candidate(0, 1, 4), candidate(3, 1, 9), candidate(4, 2, 10)];
+    let candidates = [candidate(0, 1, 4), candidate(3, 1, 9), candidate(4, 2, 10)];
     let mut text = String::from_str(alloc, ":")?;
     for _ in 0..calls {
-        let picked = choose(advisors, &choices);
+        let picked = choose(advisors, &candidates);
         write!(text, " {picked} of {} left", advisors.len())?;
     }
     Ok(text)

@@ -9,8 +9,23 @@ use crate::ranges::{cut_text, over_text};
 use crate::shelves::{file_text, memory_shelf_text, sure_shelf_text};
 use crate::sinks::{memory_sink_text, out_sink_text, sure_sink_text};
 use crate::texts::text_text;
-use std::alloc::AllocError;
+use case_scripts::Script;
+use std::alloc::{AllocError, Global};
+use std::io;
 use std::rt::Files;
+
+/// The runtime whose files lines ask for. Nothing lasts from line to line.
+#[derive(Drop)]
+pub struct Scene<R> {
+    rt: R,
+}
+
+impl<R> Scene<R> {
+    /// The files of this runtime.
+    pub(crate) fn new(rt: R) -> Scene<R> {
+        Scene { rt }
+    }
+}
 
 /// What is answered to a line that asks of shelves or sinks. Any other line is a comment.
 fn outside_text(
@@ -30,7 +45,7 @@ fn outside_text(
     }
 }
 
-/// What is answered to a line that asks of numbers, covers, commands, made cases or advisors, shelves or sinks.
+/// What is answered to a line that asks of numbers, covers, commands, made trials or advisors, shelves or sinks.
 fn part_text(
     rt: &(impl Files + AllocGlobal),
     first: &str,
@@ -49,8 +64,8 @@ fn part_text(
     }
 }
 
-/// What is answered to a line, to stand behind it. A line that begins with no word of a table is a comment.
-pub(crate) fn answer(rt: &(impl Files + AllocGlobal), line: &str) -> Result<String, AllocError> {
+/// What is answered to a line. A line that begins with no word of a table is a comment.
+fn reply(rt: &(impl Files + AllocGlobal), line: &str) -> Result<String, AllocError> {
     let alloc = rt.alloc();
     let (first, rest) = line.split_once(' ').unwrap_or((line, ""));
     match first {
@@ -59,5 +74,11 @@ pub(crate) fn answer(rt: &(impl Files + AllocGlobal), line: &str) -> Result<Stri
             number_text(alloc, first, rest)
         }
         _ => part_text(rt, first, rest),
+    }
+}
+
+impl<R: Files + AllocGlobal> Script for Scene<R> {
+    fn answer(&mut self, _alloc: Global, line: &str) -> io::Result<String> {
+        Ok(reply(&self.rt, line)?)
     }
 }

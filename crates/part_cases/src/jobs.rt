@@ -1,4 +1,4 @@
-//! Lines of a script that ask of commands and of made cases.
+//! Lines of a script that ask of commands and of made trials.
 
 use case_scripts::next_number;
 use command_words::read_words;

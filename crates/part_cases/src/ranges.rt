@@ -2,11 +2,10 @@
 ghost use Rattle.std.specs.Prelude.{◌≡◌, ◌^◌, ◌≤◌, nat_abs, All, IsTrue, length};
 
 use bound_propagation::tighten;
-use case_scripts::{Written, list_of, next_number, next_word};
+use case_scripts::{Terms, Written, list_of, next_number, next_word};
 use cost_base::Listed;
 use design_problem::{CostBox, Form, OpenBoxes, greatest_over};
 use std::alloc::{AllocError, Global};
-use std::fmt;
 use std::str::SplitWhitespace;
 
 /// The box of the words `LOW,LOW.. HIGH,HIGH..`.
@@ -26,20 +25,6 @@ fn are_small(coefficients: &[i64]) -> bool
     coefficients
         .iter()
         .all(|coefficient| coefficient.unsigned_abs() <= 1 << 26)
-}
-
-/// The constant and the terms of a form.
-#[derive(Drop)]
-struct Terms<'a>(&'a Form);
-
-impl<'a> fmt::Display for Terms<'a> {
-    fn fmt<W: fmt::Write>(&self, f: &mut fmt::Formatter<W>) -> fmt::Result {
-        write!(f, "{}", self.0.constant())?;
-        for term in self.0.terms() {
-            write!(f, " {}*x{}", term.coefficient, term.var)?;
-        }
-        Ok(())
-    }
 }
 
 /// What a form answers over a box.

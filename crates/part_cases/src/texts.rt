@@ -4,8 +4,8 @@ use case_scripts::bytes_of;
 use std::alloc::{AllocError, Global};
 use std::fmt;
 use text_lines::{
-    Line, Lines, LongLine, Words, cut, ends_line, first_word, is_comment_word, is_separator,
-    kind_of, starts_with_blank, word_at, word_count,
+    Line, Lines, LongLine, Words, cut, first_word, is_comment_word, is_separator, kind_of,
+    starts_with_blank, word_at, word_count,
 };
 
 /// A line that was read.
@@ -49,11 +49,7 @@ fn lines_text(alloc: Global, most: usize, bytes: &[u8]) -> Result<String, AllocE
             break;
         }
     }
-    format!(in alloc;
-        ": {}, at the end {}{text}",
-        lines.lines_read(),
-        lines.is_at_end()
-    )
+    format!(in alloc; ": {}{text}", lines.lines_read())
 }
 
 /// The words of a line, one after another.
@@ -115,11 +111,10 @@ fn told(holds: bool, text: &'static str) -> &'static str {
 
 /// `tests TEXT`: which tests of bytes hold.
 fn tests_text(alloc: Global, bytes: &[u8]) -> Result<String, AllocError> {
-    let ends = told(ends_line(bytes), " ends a line,");
     let starts = told(starts_with_blank(bytes), " starts with a blank,");
     let begins = told(is_comment_word(bytes), " begins a comment,");
     let count = bytes.iter().filter(|byte| is_separator(**byte)).count();
-    format!(in alloc; ":{ends}{starts}{begins} {count} separators")
+    format!(in alloc; ":{starts}{begins} {count} separators")
 }
 
 /// What is answered to a line that asks of lines and words.

@@ -2,7 +2,7 @@
 use Rattle.std.proofs.Common.{◌≡◌, refl, sym, subst, List}
 use Rattle.cost_base.specs.Histories.{Taken}
 use Rattle.design_problem.specs.Problems.{DesignProblem}
-use Rattle.command_words.specs.Jobs.{SearchLimits}
+use Rattle.wide_fraction.specs.SearchLimits.{SearchLimits}
 use Rattle.input_files.specs.declared.problem.View.TheVariants.{AsRequested}
 use Rattle.input_files.specs.Inputs.{InputFiles}
 use Rattle.input_files.specs.Readings.{Gave}
@@ -12,17 +12,17 @@ use Rattle.input_files.proofs.Problems.{IsProblemOf}
 use Rattle.report_writer.specs.declared.report.Report.{Report}
 use Rattle.report_writer.specs.Reports.{Reports, bytes_in}
 use Rattle.report_writer.proofs.ReportLaws.{may_report}
-use Rattle.conflict_core.specs.declared.conflict.Conflict.{Conflict}
-use Rattle.conflict_core.specs.declared.conflict.Conflict.TheVariants.{Fits, Core, Undecided}
-use Rattle.conflict_core.specs.Conflicts.{IsConflictFound}
+use Rattle.least_conflict.specs.declared.conflict.Conflict.{Conflict}
+use Rattle.least_conflict.specs.declared.conflict.Conflict.TheVariants.{Fit, Least, Undecided}
+use Rattle.least_conflict.specs.Conflicts.{IsConflictFound}
 use Rattle.path_commands.specs.Conflicts.{MayConflict, TellsConflict, conflict_text, conflict_status}
 
 -- what was found may be written
 found_may : (limits : SearchLimits) (d : Input) (conflict : Conflict) →
     IsConflictFound d.problem limits.top limits.nodes conflict →
     MayConflict limits d (conflict_status conflict) (conflict_text d.problem conflict)
-found_may limits d (Fits w) found = record { conflict = Fits w; found = found; status = refl; spelled = refl }
-found_may limits d (Core members rows tree without) found = record { conflict = Core members rows tree without; found = found; status = refl; spelled = refl }
+found_may limits d (Fit w) found = record { conflict = Fit w; found = found; status = refl; spelled = refl }
+found_may limits d (Least members rows tree without) found = record { conflict = Least members rows tree without; found = found; status = refl; spelled = refl }
 found_may limits d (Undecided members rows tree) found = record { conflict = Undecided members rows tree; found = found; status = refl; spelled = refl }
 
 -- the report of what was found of the problem that was read, and for which the advisors were asked

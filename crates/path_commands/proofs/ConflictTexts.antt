@@ -8,12 +8,11 @@ use Rattle.design_problem.specs.declared.tree.Entry.{Entry}
 use Rattle.design_problem.specs.Problems.{DesignProblem}
 use Rattle.design_problem.specs.Boxes.{IsInBox}
 use Rattle.design_problem.specs.Rows.{box_of}
-use Rattle.design_problem.specs.Text.{tree_lines}
+use Rattle.design_problem.specs.Text.{tree_lines, rows_lines}
 use Rattle.text_lines.specs.Lines.{with_ends}
-use Rattle.evidence_text.specs.Parts.{rows_lines}
 use Rattle.text_lines.proofs.LineLaws.{with_ends-append}
-use Rattle.conflict_core.specs.declared.conflict.Conflict.TheVariants.{Fits, Core, Undecided}
-use Rattle.conflict_core.specs.Conflicts.{IsCore, all_requests}
+use Rattle.least_conflict.specs.declared.conflict.Conflict.TheVariants.{Fit, Least, Undecided}
+use Rattle.least_conflict.specs.Conflicts.{IsLeastConflictShown, all_requests}
 use Rattle.printed_parts.specs.SharedParts.{at_greatest_bound, costs_part}
 use Rattle.path_commands.specs.Conflicts.{conflict_text, members_line, without_line, without_parts}
 use Rattle.printed_parts.proofs.TextParts.{joined}
@@ -23,7 +22,7 @@ use Rattle.printed_parts.proofs.TextParts.{joined}
 pub fits_spelled : (p : DesignProblem) (w members head costs whole : List ℕ) → members ≡ all_requests p →
     head ≡ with_ends (codes "ospfcost conflict 1" ∷ codes "verdict none" ∷ members_line members ∷ []) →
     costs ≡ head ++ with_ends (costs_part p w) → whole ≡ costs ++ with_ends (codes "end" ∷ []) →
-    whole ≡ conflict_text p (Fits w)
+    whole ≡ conflict_text p (Fit w)
 fits_spelled p w members head costs whole all first second last =
     let lines = codes "ospfcost conflict 1" ∷ codes "verdict none" ∷ members_line members ∷ [] in
     joined (lines ++ costs_part p w) (codes "end" ∷ []) costs whole (joined lines (costs_part p w) head costs first second) last
@@ -39,13 +38,13 @@ undecided_spelled p members rows tree head evidence whole first second last =
     let part = rows_lines rows ++ tree_lines (codes "open") (Some (at_greatest_bound p tree)) in
     joined (lines ++ part) (codes "end" ∷ []) evidence whole (joined lines part head evidence first second) last
 
-pub core_spelled : (p : DesignProblem) (members : List ℕ) (rows : List Row) (tree : List Entry)
+pub least_spelled : (p : DesignProblem) (members : List ℕ) (rows : List Row) (tree : List Entry)
     (without : List (List ℕ)) (head evidence each whole : List ℕ) →
     head ≡ with_ends (codes "ospfcost conflict 1" ∷ codes "verdict core" ∷ members_line members ∷ []) →
     evidence ≡ head ++ with_ends (rows_lines rows ++ tree_lines (codes "proof") (Some (at_greatest_bound p tree))) →
     each ≡ evidence ++ with_ends (without_parts p members without) → whole ≡ each ++ with_ends (codes "end" ∷ []) →
-    whole ≡ conflict_text p (Core members rows tree without)
-core_spelled p members rows tree without head evidence each whole first second third last =
+    whole ≡ conflict_text p (Least members rows tree without)
+least_spelled p members rows tree without head evidence each whole first second third last =
     let lines = codes "ospfcost conflict 1" ∷ codes "verdict core" ∷ members_line members ∷ [] in
     let part = rows_lines rows ++ tree_lines (codes "proof") (Some (at_greatest_bound p tree)) in
     let more = without_parts p members without in
@@ -83,6 +82,6 @@ evidence_pushed p rows tree t word old new is pushed = pushed ∙ ap (λ (u : Ca
 
 -- each of the costs lies within the bounds
 pub each_within : (p : DesignProblem) (top nodes : ℕ) (members : List ℕ) (rows : List Row) (tree : List Entry)
-    (without : List (List ℕ)) → IsCore p top nodes members rows tree without → All (λ w. IsInBox (box_of p) w) without
-each_within p top nodes members rows tree without core k d k_in =
-    subst (λ (w : List ℕ). IsInBox (box_of p) w) (get_or_default without k [] d k_in) (core.fits k (omega (arith, core.counted))).within
+    (without : List (List ℕ)) → IsLeastConflictShown p top nodes members rows tree without → All (λ w. IsInBox (box_of p) w) without
+each_within p top nodes members rows tree without least k d k_in =
+    subst (λ (w : List ℕ). IsInBox (box_of p) w) (get_or_default without k [] d k_in) (least.fits k (omega (arith, least.counted))).within

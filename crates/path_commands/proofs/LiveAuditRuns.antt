@@ -48,9 +48,9 @@ pub record AreRunningParts (laid : LaidOut) (lsas : List Lsa) (asked : Asked) (d
 
 pub running_parts : (layout : Layout) (laid : LaidOut) (configs : List Router) (lsas : List Lsa) (area : RunningArea) →
     IsLayoutOf layout laid → configs ≡ layout.configs.items → area.lsdb ≡ with_live_costs configs lsas layout.lsdb →
-    area.missing.items ≡ missing_links configs lsas layout.lsdb.links → AreRunningParts laid lsas layout.requests area.lsdb area.missing.items
+    area.missing.items ≡ missing_links configs lsas layout.lsdb.links → AreRunningParts laid lsas layout.request_file area.lsdb area.missing.items
 running_parts layout laid configs lsas area is are costs missing = record {
-  same_asked = is.requests;
+  same_asked = is.request_file;
   same_base = costs ∙ ap (λ (rs : List Router). with_live_costs rs lsas layout.lsdb) (are ∙ is.configs)
       ∙ ap (λ (d : Database). with_live_costs (routers_of laid.files) lsas d) is.lsdb;
   same_missing = missing ∙ ap (λ (rs : List Router). missing_links rs lsas layout.lsdb.links) (are ∙ is.configs)
@@ -70,7 +70,7 @@ problem_stops names laid lsas asked d missing stop are h =
 running_reported : (names : InputFiles) (laid : LaidOut) (lsas : List Lsa) (asked : Asked) (d : Database) (missing : List ℕ)
     (p : DesignProblem) (found : List LivePath) (bytes : List ℕ) (report : Report) → AreRunningParts laid lsas asked d missing →
     IsReadAndMade (problem_read AtPresent names asked d) [] (λ made read. made ≡ read) p →
-    AllZip (IsFoundLive p.graph (edges_of_links d p.graph missing)) p.paths found → bytes ≡ live_lines 0 found →
+    AllZip (IsFoundLive p.graph (edges_of_links d p.graph missing)) p.requests found → bytes ≡ live_lines 0 found →
     Reports status.Done bytes report → IsReadAndMade (running_read names laid lsas) [] MayReport report
 running_reported names laid lsas asked d missing p found bytes report are made all spelled r =
     read_then (problem_read AtPresent names laid.asked (running_database laid lsas)) (λ q. Ready (running_at laid lsas q)) [] []
@@ -85,13 +85,13 @@ running_reported names laid lsas asked d missing p found bytes report are made a
     })
   where
     moved : (read : DesignProblem) → p ≡ read → AllZip (IsFoundLive read.graph
-        (edges_of_links (running_database laid lsas) read.graph (missing_links (routers_of laid.files) lsas laid.database.links))) read.paths found
+        (edges_of_links (running_database laid lsas) read.graph (missing_links (routers_of laid.files) lsas laid.database.links))) read.requests found
     moved read same =
         subst (λ (q : DesignProblem). AllZip (IsFoundLive q.graph (edges_of_links (running_database laid lsas) q.graph
-        (missing_links (routers_of laid.files) lsas laid.database.links))) q.paths found) same
+        (missing_links (routers_of laid.files) lsas laid.database.links))) q.requests found) same
         (subst (λ (e : Database). AllZip (IsFoundLive p.graph (edges_of_links e p.graph
-        (missing_links (routers_of laid.files) lsas laid.database.links))) p.paths found) are.same_base
-        (subst (λ (ms : List ℕ). AllZip (IsFoundLive p.graph (edges_of_links d p.graph ms)) p.paths found) are.same_missing all))
+        (missing_links (routers_of laid.files) lsas laid.database.links))) p.requests found) are.same_base
+        (subst (λ (ms : List ℕ). AllZip (IsFoundLive p.graph (edges_of_links d p.graph ms)) p.requests found) are.same_missing all))
 
 -- what the report of the problem came to
 pub running_ended : (names : InputFiles) (laid : LaidOut) (lsas : List Lsa) (asked : Asked) (d : Database) (missing : List ℕ)
@@ -109,22 +109,22 @@ running_ended names laid lsas asked d missing (Err stop) are h = problem_stops n
 pub live_stops : (First Later Both : List Taken → Type 0) (names : InputFiles) (live : List ℕ) (layout : Layout) (stop : Stop) →
     ((xs ys : List Taken) → First xs → Later ys → Both (xs ++ ys)) →
     Gave First (λ came. IsReadAndMade (layout_read names) came IsLayoutOf layout) →
-    Gave Later (λ came. StopsAs (live_read live layout.requests.area) came stop) →
+    Gave Later (λ came. StopsAs (live_read live layout.request_file.area) came stop) →
     Gave Both (λ came. StopsAs (layout_read names >>= after_layout names live) came stop)
 live_stops First Later Both names live layout stop more a b =
     gave_then First Later Both (layout_read names) (after_layout names live) IsLayoutOf MayReport layout (Err stop) more a
     (λ laid is. gave_stop Later (live_read live laid.asked.area) (running_read names laid) stop
-    (subst (λ (x : Asked). Gave Later (λ came. StopsAs (live_read live x.area) came stop)) is.requests b))
+    (subst (λ (x : Asked). Gave Later (λ came. StopsAs (live_read live x.area) came stop)) is.request_file b))
 
 -- what is made of the layout and the LSAs is made of all
 pub live_made : (First Later Both : List Taken → Type 0) (names : InputFiles) (live : List ℕ) (layout : Layout) (database : List Lsa)
     (result : Result Report Stop) → ((xs ys : List Taken) → First xs → Later ys → Both (xs ++ ys)) →
     Gave First (λ came. IsReadAndMade (layout_read names) came IsLayoutOf layout) →
-    Gave Later (λ came. IsReadAndMade (live_read live layout.requests.area) came (λ made lsas. made ≡ lsas) database) →
+    Gave Later (λ came. IsReadAndMade (live_read live layout.request_file.area) came (λ made lsas. made ≡ lsas) database) →
     ((laid : LaidOut) → IsLayoutOf layout laid → IsReadAs (running_read names laid database) [] MayReport result) →
     Gave Both (λ came. IsReadAs (layout_read names >>= after_layout names live) came MayReport result)
 live_made First Later Both names live layout database result more a b h =
     gave_then First Later Both (layout_read names) (after_layout names live) IsLayoutOf MayReport layout result more a
     (λ laid is. gave_made Later (live_read live laid.asked.area) (running_read names laid) (λ made lsas. made ≡ lsas) MayReport database result
-    (subst (λ (x : Asked). Gave Later (λ came. IsReadAndMade (live_read live x.area) came (λ made lsas. made ≡ lsas) database)) is.requests b)
+    (subst (λ (x : Asked). Gave Later (λ came. IsReadAndMade (live_read live x.area) came (λ made lsas. made ≡ lsas) database)) is.request_file b)
     (λ lsas same. subst (λ (read : List Lsa). IsReadAs (running_read names laid read) [] MayReport result) same (h laid is)))

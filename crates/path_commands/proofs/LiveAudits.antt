@@ -1,15 +1,11 @@
 -- What is left of an area of which edges are excluded.
 use Rattle.std.proofs.Common.{ℕ, List, [], ◌∷◌, ◌++◌}
-use Rattle.cost_base.specs.Lists.{Lacks}
+use Rattle.cost_base.proofs.ListLemmas.{lacks_both}
 use Rattle.area_graph.specs.Area.{Area}
 use Rattle.area_graph.specs.Paths.{Avoids, IsPathOf}
 use Rattle.design_problem.specs.declared.problem.Request.{Request}
 use Rattle.design_problem.specs.Problems.{request_ends}
 use Rattle.path_commands.specs.LiveAudits.{left_without}
-
-lacks_both : (xs ys : List ℕ) (e : ℕ) → Lacks xs e → Lacks ys e → Lacks (xs ++ ys) e
-lacks_both [] ys e first second = second
-lacks_both (x ∷ xs) ys e first second = (first.0, lacks_both xs ys e first.1 second)
 
 avoids_both : (xs ys es : List ℕ) → Avoids xs es → Avoids ys es → Avoids (xs ++ ys) es
 avoids_both xs ys [] first second = tt

@@ -13,7 +13,7 @@ pub only_by_rival : (g : Area) (p : Point) (ends : Ends) (wanted rival : List �
 only_by_rival g p ends wanted rival true whole path cheapest = (
   λ no. absurd (false≢true no),
   λ only. absurd (
-      let less = only.others rival cheapest.rival.path cheapest.rival.other in
+      let less = only.others rival cheapest.rival.0 cheapest.rival.1 in
       let cheap = cheapest.cheap in
       omega arith),
 )

@@ -1,10 +1,9 @@
 -- What `spread` reports of the problem and the sets that were read.
 use Rattle.std.proofs.Common.{◌≡◌, ℕ, ◌≤◌, refl, sym, ◌∙◌, ap, subst, List, []}
-use Rattle.std.specs.Prelude.{IfSome, Option, None}
+use Rattle.std.specs.Prelude.{IfSome, IfOk, IfErr, Option, None, Result, Ok, Err}
 use Rattle.std.specs.Borrow.{Bor}
 use Rattle.cost_base.specs.Histories.{Taken}
 use Rattle.cost_base.specs.declared.refusal.Refusal.{Refusal}
-use Rattle.cost_base.specs.declared.refusal.Refusal.TheVariants as stops
 use Rattle.design_problem.specs.Answers.{greatest_bound}
 use Rattle.design_problem.specs.Problems.{DesignProblem}
 use Rattle.text_lines.specs.LineFaults.{FaultyLine, TellsFault}
@@ -12,20 +11,21 @@ use Rattle.set_reader.specs.declared.fault.SetFault.{SetFault}
 use Rattle.set_reader.specs.FaultNumbers.{set_fault_number}
 use Rattle.set_reader.specs.Reading.{AreSaid, set_fault}
 use Rattle.set_reader.specs.SpreadSets.{AreSetsOf}
-use Rattle.command_words.specs.Jobs.{SearchLimits}
+use Rattle.wide_fraction.specs.SearchLimits.{SearchLimits}
 use Rattle.input_files.specs.declared.problem.View.TheVariants.{AsRequested}
 use Rattle.input_files.specs.Inputs.{InputFiles}
 use Rattle.input_files.specs.Outcomes.{Input, outcome}
 use Rattle.input_files.proofs.Problems.{IsProblemOf}
 use Rattle.input_files.proofs.ReadyInputs.{IsReadyInput}
-use Rattle.input_files.specs.Readings.{EndsAs, Faulty, Gave, Says}
-use Rattle.input_files.specs.Stops.{IsReadAndMade, StopsAs, refusal_in, refusal_stop}
+use Rattle.input_files.specs.Readings.{Gave}
+use Rattle.input_files.specs.Stops.{IsReadAndMade, IsReadAs, said_or_stop}
+use Rattle.input_files.proofs.Parsed.{lines_parsed}
 use Rattle.report_writer.specs.declared.report.Report.{Report}
 use Rattle.report_writer.specs.Reports.{Reports, bytes_in}
 use Rattle.spread_sets.specs.declared.spread.Spread.{Spread}
 use Rattle.spread_sets.specs.declared.spread.Spread.TheVariants.{Fit, Impossible, Undecided}
 use Rattle.spread_sets.specs.Answers.{IsSpreadFound}
-use Rattle.path_commands.specs.SetFiles.{AreSetsIn, Sharing, if_sets, sets_read}
+use Rattle.path_commands.specs.SetFiles.{AreSetsIn, Sharing, sets_said, sets_read}
 use Rattle.path_commands.specs.Spreads.{IsSpreadBack, MaySpread, shared_costs, spread_text, spread_status}
 use Rattle.path_commands.specs.SpreadsMade.{IsProblemAsked}
 use Rattle.path_commands.proofs.SpreadsBack.{spread_back}
@@ -56,25 +56,23 @@ sharing_of d bytes = record { input = d; bytes = bytes }
 abbrev pub AreSetsFor : Input → List (List ℕ) → Sharing → Type 0
 AreSetsFor d sets sharing = (sharing.input ≡ d) × AreSetsIn sets sharing
 
--- a file without a fault
-pub sets_ready : (file : List ℕ) (d : Input) (p : DesignProblem) (bytes : List ℕ) (sets : List (List ℕ)) → d.problem ≡ p →
-    set_fault p bytes ≡ None → AreSaid bytes sets → AreSetsOf p sets →
-    IsReadAndMade (if_sets file d bytes (set_fault d.problem bytes)) [] (AreSetsFor d) sets
-sets_ready file d p bytes sets is none said lawful = record {
-  said = sharing_of d bytes;
-  ends = subst (λ (f : Option (FaultyLine SetFault)). EndsAs (if_sets file d bytes f) [] (Says (sharing_of d bytes)))
-      (sym (ap (λ (q : DesignProblem). set_fault q bytes) is ∙ none)) refl;
-  fits = (refl, record { said = said; lawful = subst (λ (q : DesignProblem). AreSetsOf q sets) (sym is) lawful });
-}
-
--- a file with one
-pub sets_stop : (file : Bor (List ℕ)) (d : Input) (p : DesignProblem) (bytes : List ℕ) (stop : Refusal SetFault ℕ) → d.problem ≡ p →
-    TellsFault (set_fault p bytes) stop →
-    StopsAs (if_sets file.now d bytes (set_fault d.problem bytes)) [] (refusal_stop set_fault_number stop file)
-sets_stop file d p bytes (stops.Refused fault line) is tells =
-    subst (λ (f : Option (FaultyLine SetFault)). EndsAs (if_sets file.now d bytes f) [] (Faulty (refusal_in (set_fault_number fault) file line)))
-    (sym (ap (λ (q : DesignProblem). set_fault q bytes) is ∙ tells)) refl
-sets_stop file d p bytes stops.OutOfMemory is tells = tt
+-- what a file of sets says, or its first faulty line
+pub sets_parsed : (file : Bor (List ℕ)) (d : Input) (p : DesignProblem) (bytes : List ℕ) (parsed : Result (List (List ℕ)) (Refusal SetFault ℕ)) →
+    d.problem ≡ p → IfOk parsed (λ sets. (set_fault p bytes ≡ None) × AreSaid bytes sets) → IfOk parsed (AreSetsOf p) →
+    IfErr parsed (TellsFault (set_fault p bytes)) →
+    IsReadAs (sets_said file.now d bytes) [] (AreSetsFor d) (said_or_stop set_fault_number parsed file)
+sets_parsed file d p bytes parsed is said lawful tells =
+    let same = sym (ap (λ (q : DesignProblem). set_fault q bytes) is) in
+    lines_parsed set_fault_number file (sharing_of d bytes) (set_fault d.problem bytes) (AreSetsFor d) parsed
+    (made parsed said lawful) (subst (λ (f : Option (FaultyLine SetFault)). IfErr parsed (TellsFault f)) same tells)
+  where
+    made : (r : Result (List (List ℕ)) (Refusal SetFault ℕ)) → IfOk r (λ sets. (set_fault p bytes ≡ None) × AreSaid bytes sets) →
+        IfOk r (AreSetsOf p) → IfOk r (λ sets. (set_fault d.problem bytes ≡ None) × AreSetsFor d sets (sharing_of d bytes))
+    made (Ok sets) so fits = (
+      ap (λ (q : DesignProblem). set_fault q bytes) is ∙ so.0,
+      (refl, record { said = so.1; lawful = subst (λ (q : DesignProblem). AreSetsOf q sets) (sym is) fits }),
+    )
+    made (Err refusal) so fits = tt
 
 -- what was found may be written
 found_may : (limits : SearchLimits) (sharing : Sharing) (sets : List (List ℕ)) (spread : Spread) → IsReadyInput sharing.input →

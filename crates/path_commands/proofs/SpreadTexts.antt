@@ -47,18 +47,18 @@ front_spelled verdict costs rows head second third one two three =
     joined (a ++ costs_lines costs) (set_rows_lines rows) second third (joined a (costs_lines costs) head second one two) three
 
 -- the trees and the last line behind them
-pub trees_behind : (verdict : List ℕ) (costs : Option Costs) (rows : List SetRow) (proof unfinished : Option CapTree)
+pub trees_behind : (verdict : List ℕ) (costs : Option Costs) (rows : List SetRow) (proof undecided : Option CapTree)
     (front whole : List ℕ) → front ≡ with_ends (front_lines verdict costs rows) →
     whole ≡ ((front ++ with_ends (tree_lines (codes "proof") proof))
-    ++ with_ends (tree_lines (codes "open") unfinished)) ++ with_ends (codes "end" ∷ []) →
-    whole ≡ with_ends (spread_lines verdict costs rows proof unfinished)
-trees_behind verdict costs rows proof unfinished front whole first last =
+    ++ with_ends (tree_lines (codes "open") undecided)) ++ with_ends (codes "end" ∷ []) →
+    whole ≡ with_ends (spread_lines verdict costs rows proof undecided)
+trees_behind verdict costs rows proof undecided front whole first last =
     let d = front_lines verdict costs rows in
     let e = d ++ tree_lines (codes "proof") proof in
-    let f = e ++ tree_lines (codes "open") unfinished in
+    let f = e ++ tree_lines (codes "open") undecided in
     last
     ∙ ap (λ (bytes : List ℕ). ((bytes ++ with_ends (tree_lines (codes "proof") proof))
-    ++ with_ends (tree_lines (codes "open") unfinished)) ++ with_ends (codes "end" ∷ [])) first
+    ++ with_ends (tree_lines (codes "open") undecided)) ++ with_ends (codes "end" ∷ [])) first
     ∙ sym (with_ends-append f (codes "end" ∷ [])
-    ∙ ap (λ (bytes : List ℕ). bytes ++ with_ends (codes "end" ∷ [])) (with_ends-append e (tree_lines (codes "open") unfinished)
-    ∙ ap (λ (bytes : List ℕ). bytes ++ with_ends (tree_lines (codes "open") unfinished)) (with_ends-append d (tree_lines (codes "proof") proof))))
+    ∙ ap (λ (bytes : List ℕ). bytes ++ with_ends (codes "end" ∷ [])) (with_ends-append e (tree_lines (codes "open") undecided)
+    ∙ ap (λ (bytes : List ℕ). bytes ++ with_ends (tree_lines (codes "open") undecided)) (with_ends-append d (tree_lines (codes "proof") proof))))

@@ -14,7 +14,7 @@ use Rattle.design_problem.specs.Problems.{DesignProblem}
 use Rattle.design_problem.specs.Rows.{box_of, greatest_cost}
 use Rattle.design_problem.specs.Text.{cost_lines, spaced, tree_lines}
 use Rattle.text_lines.specs.Lines.{with_ends}
-use Rattle.command_words.specs.Jobs.{SearchLimits}
+use Rattle.wide_fraction.specs.SearchLimits.{SearchLimits}
 use Rattle.input_files.specs.Outcomes.{Input}
 use Rattle.input_files.proofs.ReadyInputs.{IsReadyInput}
 use Rattle.present_costs.specs.AtCosts.{graph_with}
@@ -40,7 +40,8 @@ abbrev costs_named : DesignProblem → List ℕ → List CostLine
 costs_named p w = map (named_cost w) p.vars
 
 names_costs : (w : List ℕ) (names : List VarName) →
-    AllZip (λ name line. (line.router ≡ name.router) × (line.interface ≡ name.interface) × (line.cost ≡ slice_index w name.var)) names (map (named_cost w) names)
+    AllZip (λ name line. (line.router ≡ name.router) × (line.interface ≡ name.interface) × (line.cost ≡ slice_index w name.var)) names
+    (map (named_cost w) names)
 names_costs w [] = tt
 names_costs w (name ∷ names) = ((refl, refl, refl), names_costs w names)
 

@@ -15,7 +15,7 @@ use Rattle.path_commands.specs.declared.audit.AuditedPath.{AuditedPath}
 use Rattle.input_files.specs.Outcomes.{Input}
 use Rattle.report_writer.specs.declared.report.Report.{Report}
 use Rattle.report_writer.specs.Reports.{Reports}
-use Rattle.report_writer.specs.Texts.{line_of_words}
+use Rattle.line_builder.specs.Words.{line_of_words}
 
 -- how a wanted path of this cost stands among the simple paths of its request, of which none costs less than `least`
 abbrev pub StandsAs : Area → Request → ℕ → ℕ → Standing → Type 0
@@ -53,7 +53,7 @@ audit_lines i (path ∷ paths) = audit_line i path ++ audit_lines (i + 1) paths
 -- the text of an audit of a problem without variables
 pub record IsAudit (p : DesignProblem) (bytes : List ℕ) : Type 0 where
   pub paths : List AuditedPath
-  pub audited : AllZip (IsAudited p.graph) p.paths paths
+  pub audited : AllZip (IsAudited p.graph) p.requests paths
   pub spelled : bytes ≡ audit_lines 0 paths
 
 -- what `audit` may write of the problem in which every interface stands at its present cost
@@ -64,5 +64,5 @@ MayAudit d status bytes = ⊥
 -- the report of an audit of a problem without variables
 pub record ReportsAudit (report : Report) (p : DesignProblem) : Type 0 where
   pub paths : List AuditedPath
-  pub audited : AllZip (IsAudited p.graph) p.paths paths
+  pub audited : AllZip (IsAudited p.graph) p.requests paths
   pub reports : Reports Done (audit_lines 0 paths) report

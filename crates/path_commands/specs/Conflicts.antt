@@ -1,22 +1,21 @@
 -- The text of `conflict`, and what the command may write.
-use Rattle.std.specs.Prelude.{◌≡◌, ℕ, List, [], ◌∷◌, ◌++◌, map, length, codes, Some}
+use Rattle.std.specs.Prelude.{◌≡◌, ℕ, List, [], ◌∷◌, ◌++◌, codes, Some}
 use Rattle.cost_base.specs.Decimal.{decimal}
 use Rattle.cost_base.specs.declared.Status.{Status}
 use Rattle.cost_base.specs.declared.Status.TheVariants.{Done, Undecided}
 use Rattle.design_problem.specs.Problems.{DesignProblem}
-use Rattle.design_problem.specs.Text.{spaced, tree_lines}
+use Rattle.design_problem.specs.Text.{spaced, tree_lines, rows_lines}
 use Rattle.text_lines.specs.Lines.{with_ends}
-use Rattle.evidence_text.specs.Parts.{rows_lines}
-use Rattle.conflict_core.specs.declared.conflict.Conflict.{Conflict}
-use Rattle.conflict_core.specs.declared.conflict.Conflict.TheVariants.{Fits, Core, Undecided as ConflictUndecided}
-use Rattle.conflict_core.specs.Conflicts.{IsConflictFound, all_requests}
-use Rattle.command_words.specs.Jobs.{SearchLimits}
+use Rattle.least_conflict.specs.declared.conflict.Conflict.{Conflict}
+use Rattle.least_conflict.specs.declared.conflict.Conflict.TheVariants.{Fit, Least, Undecided as ConflictUndecided}
+use Rattle.least_conflict.specs.Conflicts.{IsConflictFound, all_requests}
+use Rattle.wide_fraction.specs.SearchLimits.{SearchLimits}
 use Rattle.input_files.specs.Outcomes.{Input}
-use Rattle.printed_parts.specs.SharedParts.{at_greatest_bound, costs_part}
+use Rattle.printed_parts.specs.SharedParts.{at_greatest_bound, costs_part, counted_line}
 
 -- the line `members COUNT I ..` with the numbers of requests
 abbrev pub members_line : List ℕ → List ℕ
-members_line members = spaced (codes "members" ∷ decimal (length members) ∷ map decimal members)
+members_line members = counted_line (codes "members") members
 
 -- the line `without I`, behind which stand costs that are fit without request I
 abbrev pub without_line : ℕ → List ℕ
@@ -30,8 +29,8 @@ without_parts p (member ∷ members) (w ∷ lists) = without_line member ∷ cos
 
 -- the lines of the text of `conflict` between its first and its last one
 abbrev pub conflict_lines : DesignProblem → Conflict → List (List ℕ)
-conflict_lines p (Fits w) = codes "verdict none" ∷ members_line (all_requests p) ∷ costs_part p w
-conflict_lines p (Core members rows tree without) =
+conflict_lines p (Fit w) = codes "verdict none" ∷ members_line (all_requests p) ∷ costs_part p w
+conflict_lines p (Least members rows tree without) =
     codes "verdict core" ∷ members_line members ∷ rows_lines rows ++ tree_lines (codes "proof") (Some (at_greatest_bound p tree)) ++ without_parts p members without
 conflict_lines p (ConflictUndecided members rows tree) =
     codes "verdict undecided" ∷ members_line members ∷ rows_lines rows ++ tree_lines (codes "open") (Some (at_greatest_bound p tree))
@@ -42,8 +41,8 @@ conflict_text p conflict = with_ends (codes "ospfcost conflict 1" ∷ conflict_l
 
 -- the status of a run of `conflict` that prints what was found
 abbrev pub conflict_status : Conflict → Status
-conflict_status (Fits w) = Done
-conflict_status (Core members rows tree without) = Done
+conflict_status (Fit w) = Done
+conflict_status (Least members rows tree without) = Done
 conflict_status (ConflictUndecided members rows tree) = Undecided
 
 -- the bytes are the text of `conflict` on what was found of the problem, which has this status

@@ -23,7 +23,7 @@ use Rattle.input_files.specs.Outcomes.{problem_read, routers_of}
 use Rattle.input_files.specs.Readings.{Reading, Ready, ◌>>=◌}
 use Rattle.report_writer.specs.declared.report.Report.{Report}
 use Rattle.report_writer.specs.Reports.{Reports}
-use Rattle.report_writer.specs.Texts.{line_of_words}
+use Rattle.line_builder.specs.Words.{line_of_words}
 use Rattle.path_commands.specs.declared.audit_live.LivePath.{LivePath}
 use Rattle.path_commands.specs.declared.audit_live.LivePath.TheVariants.{Stands, Gone}
 use Rattle.path_commands.specs.Audits.{IsAudited, audit_line}
@@ -86,7 +86,7 @@ live_lines i (path ∷ paths) = live_line i path ++ live_lines (i + 1) paths
 -- the text of an audit of a running area
 pub record IsLiveAudit (now : Running) (bytes : List ℕ) : Type 0 where
   pub paths : List LivePath
-  pub found : AllZip (IsFoundLive now.problem.graph (excluded_live now)) now.problem.paths paths
+  pub found : AllZip (IsFoundLive now.problem.graph (excluded_live now)) now.problem.requests paths
   pub spelled : bytes ≡ live_lines 0 paths
 
 -- what `audit --live` may write of a running area
@@ -97,5 +97,5 @@ MayAuditLive now status bytes = ⊥
 -- the report of what is found of the wanted paths of a problem in an area where linked interfaces have no link
 pub record ReportsLive (d : Database) (missing : List ℕ) (report : Report) (p : DesignProblem) : Type 0 where
   pub paths : List LivePath
-  pub found : AllZip (IsFoundLive p.graph (edges_of_links d p.graph missing)) p.paths paths
+  pub found : AllZip (IsFoundLive p.graph (edges_of_links d p.graph missing)) p.requests paths
   pub reports : Reports Done (live_lines 0 paths) report

@@ -6,15 +6,14 @@ use Rattle.area_graph.specs.Costs.{at_costs}
 use Rattle.design_problem.specs.declared.answer.CapTree.{CapTree}
 use Rattle.design_problem.specs.declared.answer.Costs.{Costs}
 use Rattle.design_problem.specs.Problems.{DesignProblem}
-use Rattle.design_problem.specs.Text.{costs_lines, tree_lines}
+use Rattle.design_problem.specs.Text.{costs_lines, tree_lines, rows_line}
 use Rattle.text_lines.specs.Lines.{with_ends}
-use Rattle.evidence_text.specs.Parts.{rows_line}
 use Rattle.spread_sets.specs.declared.spread.SetRow.{SetRow}
 use Rattle.spread_sets.specs.declared.spread.Spread.{Spread}
 use Rattle.spread_sets.specs.declared.spread.Spread.TheVariants.{Fit, Impossible, Undecided}
 use Rattle.spread_sets.specs.Answers.{IsSpreadFound, set_row_line}
 use Rattle.spread_sets.specs.Spreads.{SharesEach, all_sets}
-use Rattle.command_words.specs.Jobs.{SearchLimits}
+use Rattle.wide_fraction.specs.SearchLimits.{SearchLimits}
 use Rattle.input_files.specs.Outcomes.{Input}
 use Rattle.read_back_laws.specs.ReadBack.{graph_back, IsReadBack}
 use Rattle.printed_parts.specs.SharedParts.{at_greatest_bound}
@@ -34,10 +33,10 @@ front_lines verdict costs rows =
 
 -- the lines of the text of `spread`: each of its parts, of which those that aren't there say so, as in an answer
 abbrev pub spread_lines : List ℕ → Option Costs → List SetRow → Option CapTree → Option CapTree → List (List ℕ)
-spread_lines verdict costs rows proof unfinished =
+spread_lines verdict costs rows proof undecided =
     front_lines verdict costs rows
     ++ tree_lines (codes "proof") proof
-    ++ tree_lines (codes "open") unfinished
+    ++ tree_lines (codes "open") undecided
     ++ (codes "end" ∷ [])
 
 -- the lines of the text of `spread` on what was found; trees stand at the greatest bound
@@ -75,8 +74,8 @@ pub record IsSpreadBack (d : Input) (sets : List (List ℕ)) (text w : List ℕ)
   pub back : IsReadBack d text w
   pub shared : AreSharedBack d sets text
 
--- The bytes are the text of what was found for the sets that the file says, which has this status; printed costs are read
--- back.
+-- The bytes are the text of what was found for the sets that the file says, which has this status; printed costs are
+-- read back.
 pub record ShowsSpread (limits : SearchLimits) (sharing : Sharing) (aim : Status) (bytes : List ℕ) : Type 0 where
   pub sets : List (List ℕ)
   pub said : AreSetsIn sets sharing

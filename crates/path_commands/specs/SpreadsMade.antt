@@ -1,7 +1,7 @@
 -- What `spread` makes of the problem and the sets that were read. No public clause cites it.
 use Rattle.std.specs.Prelude.{◌≡◌, ℕ, ◌≤◌, List}
 use Rattle.cost_base.specs.Histories.{Taken}
-use Rattle.command_words.specs.Jobs.{SearchLimits}
+use Rattle.wide_fraction.specs.SearchLimits.{SearchLimits}
 use Rattle.design_problem.specs.Answers.{greatest_bound}
 use Rattle.design_problem.specs.Problems.{DesignProblem}
 use Rattle.input_files.specs.declared.problem.View.TheVariants.{AsRequested}

@@ -11,15 +11,16 @@ ghost use Rattle.input_files.specs.Stops.{IsReadAs, files_named};
 ghost use Rattle.path_commands.specs.Audits.{IsAudited, MayAudit, ReportsAudit, audit_line, audit_lines, standing_by, standing_word};
 ghost use Rattle.report_writer.specs.Reports.{bytes_in};
 
-use area_graph::{Graph, Point, path_cost};
-use cost_base::{Listed, OutOfMemory, Shelf, Status};
+use area_graph::{Graph, Point, empty_point, path_cost};
+use cost_base::{OutOfMemory, Shelf, Status};
 use design_problem::{Problem, Request};
 use input_files::{FileWords, Stop, View, read_problem};
+use line_builder::LineBuilder;
 use report_writer::Report;
 use rival_separation::find_rival;
 use spf_ties::Room;
 use std::alloc::Global;
-use text_lines::{push_bytes, push_number};
+use text_lines::push_bytes;
 
 /// How a wanted path stands among the simple paths of its request.
 #[derive(Clone, Copy, Debug, PartialEq, Eq)]
@@ -123,15 +124,12 @@ fn audit_in(
 ) -> Result<Vec<AuditedPath>, OutOfMemory>
     requires low { problem.now.low ≡ [] }
     requires room { IsRoomFor problem.now.graph room.old }
-    ensures { IfOk result (λ found. AllZip (IsAudited problem.now.graph) problem.now.paths
+    ensures { IfOk result (λ found. AllZip (IsAudited problem.now.graph) problem.now.requests
         found.items) }
 {
-    let point = Point {
-        scale: 1,
-        values: Listed::from_items(Vec::new(alloc)),
-    };
+    let point = empty_point(alloc);
     let mut found = Vec::new(alloc);
-    for request in problem.paths.as_slice() {
+    for request in problem.requests.as_slice() {
         let path = audited(&problem.graph, request, &point, room);
         found.push(path)?;
     }
@@ -141,7 +139,7 @@ fn audit_in(
 /// What is found of the wanted paths of a problem without variables.
 fn audit(alloc: Global, problem: &Problem) -> Result<Vec<AuditedPath>, OutOfMemory>
     requires { problem.now.low ≡ [] }
-    ensures { IfOk result (λ found. AllZip (IsAudited problem.now.graph) problem.now.paths
+    ensures { IfOk result (λ found. AllZip (IsAudited problem.now.graph) problem.now.requests
         found.items) }
 {
     let mut room = Room::new(alloc, &problem.graph)?;
@@ -170,17 +168,14 @@ pub(crate) fn line_of(
 ) -> Result<Vec<u8>, OutOfMemory>
     ensures { IfOk result (λ line. line.items ≡ audit_line number path) }
 {
-    let mut line = Vec::new(alloc);
-    push_bytes(&mut line, b"path ")?;
-    push_number(&mut line, number as u128)?;
-    push_bytes(&mut line, b" cost ")?;
-    push_number(&mut line, path.cost)?;
-    push_bytes(&mut line, b" least ")?;
-    push_number(&mut line, path.least)?;
-    push_bytes(&mut line, b" ")?;
-    push_bytes(&mut line, word_of(path.standing))?;
-    push_bytes(&mut line, b"\n")?;
-    Ok(line)
+    let mut line = LineBuilder::new(alloc, b"path")?;
+    line.number(number as u128)?;
+    line.word(b"cost")?;
+    line.number(path.cost)?;
+    line.word(b"least")?;
+    line.number(path.least)?;
+    line.word(word_of(path.standing))?;
+    line.ended()
 }
 
 /// The text of an audit: a line for each path.

@@ -14,18 +14,19 @@ ghost use Rattle.report_writer.specs.Reports.{bytes_in};
 
 use crate::audit::{AuditedPath, audited, line_of};
 use crate::link_edges::edges_of_links;
-use area_graph::{Exclusion, Graph, Path, Point, mark_excluded};
-use cost_base::{Listed, OutOfMemory, Shelf, Status};
+use area_graph::{Exclusion, Graph, Path, Point, empty_point, mark_excluded};
+use cost_base::{Listed, OutOfMemory, Shelf, Status, no_marks};
 use design_problem::{Problem, Request};
 use input_files::{FileWords, Layout, Stop, View, read_layout, resolution_at_present};
+use line_builder::LineBuilder;
 use live_area::{RunningArea, running_area};
 use live_input::read_live_file;
-use lsa_bytes::Database;
+use lsa_bytes::LsaDatabase;
 use report_writer::Report;
 use request_reader::RequestFile;
 use spf_ties::Room;
 use std::alloc::Global;
-use text_lines::{push_bytes, push_number};
+use text_lines::push_bytes;
 
 /// What is found of a wanted path in an area of which edges are excluded.
 #[derive(Clone, Copy, Debug, PartialEq, Eq)]
@@ -100,10 +101,7 @@ fn found_live(
     ensures room { IsRoomFor graph.now room.new }
     ensures found { IfOk result (IsFoundLive graph.now exclusion.now request.now) }
 {
-    let point = Point {
-        scale: 1,
-        values: Listed::new(alloc),
-    };
+    let point = empty_point(alloc);
     let left = left_without(alloc, exclusion, request)?;
     if is_left(exclusion, request.path.edges.as_slice()) {
         Ok(LivePath::Stands(audited(graph, &left, &point, room)))
@@ -122,10 +120,10 @@ fn audit_left_in(
     requires low { problem.now.low ≡ [] }
     requires room { IsRoomFor problem.now.graph room.old }
     ensures { IfOk result (λ found. AllZip (IsFoundLive problem.now.graph exclusion.now)
-        problem.now.paths found.items) }
+        problem.now.requests found.items) }
 {
     let mut found = Vec::new(alloc);
-    for request in problem.paths.as_slice() {
+    for request in problem.requests.as_slice() {
         found.push(found_live(alloc, &problem.graph, exclusion, request, room)?)?;
     }
     Ok(found)
@@ -139,7 +137,7 @@ fn audit_left(
 ) -> Result<Vec<LivePath>, OutOfMemory>
     requires { problem.now.low ≡ [] }
     ensures { IfOk result (λ found. AllZip (IsFoundLive problem.now.graph exclusion.now)
-        problem.now.paths found.items) }
+        problem.now.requests found.items) }
 {
     let mut room = Room::new(alloc, &problem.graph)?;
     let found = audit_left_in(alloc, problem, exclusion, &mut room);
@@ -159,10 +157,10 @@ fn audit_running(
         (λ found.
         AllZip
         (IsFoundLive problem.now.graph (edges_of_links running.now.lsdb problem.now.graph
-        running.now.missing.items)) problem.now.paths found.items) }
+        running.now.missing.items)) problem.now.requests found.items) }
 {
     let edges = edges_of_links(alloc, &running.lsdb, &problem.graph, &running.missing)?;
-    let mut marks = vec![in alloc; false; problem.graph.edges().len()]?;
+    let mut marks = no_marks(alloc, problem.graph.edges().len())?;
     mark_excluded(&mut marks, &edges);
     let exclusion = Exclusion {
         excluded: &edges,
@@ -175,18 +173,17 @@ fn audit_running(
 fn gone_line(alloc: Global, number: usize, least: Option<u128>) -> Result<Vec<u8>, OutOfMemory>
     ensures { IfOk result (λ line. line.items ≡ live_line number (LivePath.Gone least)) }
 {
-    let mut line = Vec::new(alloc);
-    push_bytes(&mut line, b"path ")?;
-    push_number(&mut line, number as u128)?;
+    let mut line = LineBuilder::new(alloc, b"path")?;
+    line.number(number as u128)?;
+    line.word(b"gone")?;
     match least {
         Some(least) => {
-            push_bytes(&mut line, b" gone least ")?;
-            push_number(&mut line, least)?;
-            push_bytes(&mut line, b"\n")?;
+            line.word(b"least")?;
+            line.number(least)?;
         }
-        None => push_bytes(&mut line, b" gone unreachable\n")?,
+        None => line.word(b"unreachable")?,
     }
-    Ok(line)
+    line.ended()
 }
 
 /// The line of a path by its number, with its LF.
@@ -211,11 +208,11 @@ fn live_text(alloc: Global, paths: &[LivePath]) -> Result<Vec<u8>, OutOfMemory>
     Ok(text)
 }
 
-/// The area that a request file is for.
-fn area_of(requests: &RequestFile) -> u32
-    ensures { result ≡ requests.now.area }
+/// The area that a request file is for. For the prover: a call, so that the caller's goals have this part alone.
+fn area_of(request_file: &RequestFile) -> u32
+    ensures { result ≡ request_file.now.area }
 {
-    requests.area
+    request_file.area
 }
 
 /// The report of what is found of the wanted paths of a problem at the costs at which an area runs.
@@ -236,14 +233,14 @@ fn report_of_left(
 /// The report of an audit of requests at the costs at which an area runs.
 fn report_at<'a>(
     alloc: Global,
-    requests: &RequestFile,
+    request_file: &RequestFile,
     running: &RunningArea,
     words: FileWords<'a>,
 ) -> Result<Report, Stop<'a>>
-    ensures { IsReadAs (problem_read View.AtPresent (files_named words.entry) requests.now
+    ensures { IsReadAs (problem_read View.AtPresent (files_named words.entry) request_file.now
         running.now.lsdb) [] (ReportsLive running.now.lsdb running.now.missing.items) result }
 {
-    let problem = resolution_at_present(alloc, requests, &running.lsdb, words)?;
+    let problem = resolution_at_present(alloc, request_file, &running.lsdb, words)?;
     let report = report_of_left(alloc, &problem, running);
     // For the prover alone: a call drops the problem, so that its parts' drops aren't written out at each exit.
     drop(problem);
@@ -254,7 +251,7 @@ fn report_at<'a>(
 fn report_of_running<'a>(
     alloc: Global,
     layout: Layout,
-    live: &Database,
+    live: &LsaDatabase,
     words: FileWords<'a>,
 ) -> Result<Report, Stop<'a>>
     ensures { (laid : LaidOut) → IsLayoutOf layout laid → IsReadAs
@@ -262,12 +259,12 @@ fn report_of_running<'a>(
         (λ report said. MayAuditLive said report.status (bytes_in report.text)) result }
 {
     let Layout {
-        requests,
+        request_file,
         configs,
         lsdb,
     } = layout;
     let running = running_area(alloc, &configs, lsdb, live)?;
-    let report = report_at(alloc, &requests, &running, words);
+    let report = report_at(alloc, &request_file, &running, words);
     // For the prover alone: a call drops the area, so that its parts' drops aren't written out at each exit.
     drop(running);
     report
@@ -292,7 +289,7 @@ pub fn audit_live_report<'a, S: Shelf>(
         (λ report said. MayAuditLive said report.status (bytes_in report.text)) result) }
 {
     let layout = read_layout(alloc, words, shelf)?;
-    match read_live_file(alloc, shelf, live, area_of(&layout.requests)) {
+    match read_live_file(alloc, shelf, live, area_of(&layout.request_file)) {
         Ok(lsas) => report_of_running(alloc, layout, &lsas, words),
         Err(stop) => {
             // For the prover alone: a call drops the layout, so that its parts' drops aren't written out at each exit.

@@ -1,21 +1,21 @@
 //! `conflict`: a least conflict among the requests of the files of words.
 ghost use Rattle.std.specs.Prelude.{◌≡◌, ◌⊎◌, ℕ, ◌≤◌, List, IfErr, IfOk};
-ghost use Rattle.command_words.specs.Jobs.{limits_seen};
+ghost use Rattle.wide_fraction.specs.SearchLimits.{limits_seen};
 ghost use Rattle.input_files.specs.Readings.{Gave};
 ghost use Rattle.input_files.specs.Outcomes.{outcome};
 ghost use Rattle.input_files.specs.Stops.{IsReadAs, files_named};
 ghost use Rattle.report_writer.specs.Reports.{Reports, bytes_in};
-ghost use Rattle.conflict_core.specs.Asking.{AreAskedFinding};
-ghost use Rattle.conflict_core.specs.Conflicts.{IsConflictFound};
-ghost use Rattle.form_search.specs.Advised.{AreCalled};
+ghost use Rattle.least_conflict.specs.AdvisorsAsked.{AreAskedFinding};
+ghost use Rattle.least_conflict.specs.Conflicts.{IsConflictFound};
+ghost use Rattle.form_search.specs.AdvisorsAsked.{AreCalled};
 ghost use Rattle.path_commands.specs.Conflicts.{MayConflict, TellsConflict, conflict_text, conflict_status};
 
 use crate::conflict_text::text_of_conflict;
-use conflict_core::{Conflict, find_conflict};
 use cost_base::{OutOfMemory, Shelf, Status};
 use cut_advisors::Advisor;
 use design_problem::Problem;
 use input_files::{FileWords, Stop, View, read_problem};
+use least_conflict::{Conflict, find_conflict};
 use report_writer::Report;
 use std::alloc::Global;
 use wide_fraction::Limits;
@@ -25,7 +25,7 @@ fn status_of(conflict: &Conflict) -> Status
     ensures { result ≡ conflict_status conflict.now }
 {
     match conflict {
-        Conflict::Fits { .. } | Conflict::Core { .. } => Status::Done,
+        Conflict::Fit { .. } | Conflict::Least { .. } => Status::Done,
         Conflict::Undecided { .. } => Status::Undecided,
     }
 }

@@ -3,19 +3,17 @@ ghost use Rattle.std.specs.Prelude.{◌≡◌, ℕ, ◌≤◌, [], ◌∷◌, �
 ghost use Rattle.design_problem.specs.Boxes.{IsInBox};
 ghost use Rattle.design_problem.specs.Rows.{box_of};
 ghost use Rattle.text_lines.specs.Lines.{with_ends};
-ghost use Rattle.conflict_core.specs.declared.conflict.Conflict.TheVariants.{Core, Fits, Undecided as ConflictUndecided};
-ghost use Rattle.conflict_core.specs.Conflicts.{IsConflictFound, IsCore, IsUndecidedConflict};
+ghost use Rattle.least_conflict.specs.declared.conflict.Conflict.TheVariants.{Least, Fit, Undecided as ConflictUndecided};
+ghost use Rattle.least_conflict.specs.Conflicts.{IsConflictFound, IsLeastConflictShown, IsUndecidedConflict};
 ghost use Rattle.path_commands.specs.Conflicts.{conflict_text, members_line, without_line, without_parts};
 ghost use Rattle.printed_parts.specs.SharedParts.{costs_part};
 
-use conflict_core::{Conflict, all_requests};
 use cost_base::OutOfMemory;
-use cost_branching::keeps_conditions;
-use design_problem::{CostList, Problem, Row, Tree};
+use design_problem::{CostList, Problem, Row, Tree, keeps_problem_on_graph};
 use evidence_text::{TreePart, push_costs, push_evidence};
-use printed_parts::{
-    at_greatest_bound, costs_by_name, counted_line, head_lines, number_line, push_line,
-};
+use least_conflict::{Conflict, all_requests};
+use line_builder::{LineBuilder, push_line};
+use printed_parts::{at_greatest_bound, costs_by_name, counted_head};
 use std::alloc::Global;
 
 /// The first lines, up to that of the requests.
@@ -24,10 +22,7 @@ fn head_of(alloc: Global, verdict: &[u8], members: &[u32]) -> Result<Vec<u8>, Ou
         (λ text. text.items ≡ with_ends (codes "ospfcost conflict 1" ∷ verdict.now ∷
         members_line members.now ∷ [])) }
 {
-    let members = counted_line(alloc, b"members", members.len() as u64, members)?;
-    let mut text = head_lines(alloc, b"ospfcost conflict 1", verdict)?;
-    push_line(&mut text, members.as_slice())?;
-    Ok(text)
+    counted_head(alloc, b"ospfcost conflict 1", verdict, b"members", members)
 }
 
 /// Adds the lines of costs of the problem's variables.
@@ -57,8 +52,8 @@ fn push_without_one(
     ensures { OnOk result (text.new.items ≡ text.old.items ++ with_ends
         (without_line member ∷ costs_part problem.now costs.now)) }
 {
-    let line = number_line(alloc, b"without", &[member])?;
-    push_line(text, line.as_slice())?;
+    let line = LineBuilder::of_numbers(alloc, b"without", &[member])?;
+    line.end_in(text)?;
     push_costs_part(alloc, text, problem, costs)
 }
 
@@ -84,7 +79,7 @@ fn push_without(
 /// The text where all requests fit.
 fn fits_text(alloc: Global, problem: &Problem, costs: &CostList) -> Result<Vec<u8>, OutOfMemory>
     requires { IsInBox (box_of problem.now) costs.now }
-    ensures { IfOk result (λ text. text.items ≡ conflict_text problem.now (Fits costs.now)) }
+    ensures { IfOk result (λ text. text.items ≡ conflict_text problem.now (Fit costs.now)) }
 {
     let members = all_requests(alloc, problem)?;
     let mut text = head_of(alloc, b"verdict none", members.as_slice())?;
@@ -95,29 +90,29 @@ fn fits_text(alloc: Global, problem: &Problem, costs: &CostList) -> Result<Vec<u
 
 /// A least conflict: its requests, the rows that its tree names, and the costs without each request.
 #[derive(Clone, Copy)]
-struct LeastConflict<'a> {
+struct LeastParts<'a> {
     members: &'a [u32],
     rows: &'a [Row],
     without: &'a [CostList],
 }
 
 /// The text of a least conflict, of which the tree shows that there are no fit costs.
-fn core_text(
+fn least_text(
     alloc: Global,
     problem: &Problem,
-    core: &LeastConflict<'_>,
+    least: &LeastParts<'_>,
     tree: Tree,
 ) -> Result<Vec<u8>, OutOfMemory>
-    requires { (top : ℕ) × (nodes : ℕ) × (nodes ≤ 10000000) × IsCore problem.now top nodes
-        core.now.members.now core.now.rows.now tree core.now.without.now }
+    requires { (top : ℕ) × (nodes : ℕ) × (nodes ≤ 10000000) × IsLeastConflictShown problem.now top
+        nodes least.now.members.now least.now.rows.now tree least.now.without.now }
     ensures { IfOk result (λ text. text.items ≡ conflict_text problem.now
-        (Core core.now.members.now core.now.rows.now tree core.now.without.now)) }
+        (Least least.now.members.now least.now.rows.now tree least.now.without.now)) }
 {
-    keeps_conditions(problem);
-    let mut text = head_of(alloc, b"verdict core", core.members)?;
+    keeps_problem_on_graph(problem);
+    let mut text = head_of(alloc, b"verdict core", least.members)?;
     let tree = at_greatest_bound(problem, tree);
-    push_evidence(alloc, &mut text, core.rows, TreePart::Proof, &tree)?;
-    push_without(alloc, &mut text, problem, core.members, core.without)?;
+    push_evidence(alloc, &mut text, least.rows, TreePart::Proof, &tree)?;
+    push_without(alloc, &mut text, problem, least.members, least.without)?;
     push_line(&mut text, b"end")?;
     Ok(text)
 }
@@ -135,10 +130,10 @@ fn undecided_text(
     ensures { IfOk result (λ text. text.items ≡ conflict_text problem.now
         (ConflictUndecided members.now rows.now tree)) }
 {
-    keeps_conditions(problem);
+    keeps_problem_on_graph(problem);
     let mut text = head_of(alloc, b"verdict undecided", members)?;
     let tree = at_greatest_bound(problem, tree);
-    push_evidence(alloc, &mut text, rows, TreePart::Unfinished, &tree)?;
+    push_evidence(alloc, &mut text, rows, TreePart::Undecided, &tree)?;
     push_line(&mut text, b"end")?;
     Ok(text)
 }
@@ -158,19 +153,19 @@ pub(crate) fn text_of_conflict(
     ensures { IfOk result (λ text. text.items ≡ conflict_text problem.now conflict) }
 {
     match conflict {
-        Conflict::Fits { costs } => fits_text(alloc, problem, &costs),
-        Conflict::Core {
+        Conflict::Fit { costs } => fits_text(alloc, problem, &costs),
+        Conflict::Least {
             members,
             rows,
             tree,
             without,
         } => {
-            let core = LeastConflict {
+            let least = LeastParts {
                 members: members.as_slice(),
                 rows: rows.as_slice(),
                 without: without.as_slice(),
             };
-            core_text(alloc, problem, &core, tree)
+            least_text(alloc, problem, &least, tree)
         }
         Conflict::Undecided {
             members,

@@ -49,7 +49,8 @@ fn is_of_link(routers: usize, graph: &Graph, number: u32, link: &Linked, edge: u
 /// Whether an edge is of the link of a number, in one direction or the other.
 fn link_excludes(lsdb: &Lsdb, graph: &Graph, number: u32, edge: u32) -> bool
     requires { edge < length graph.now.edges }
-    ensures { result ≡ link_excludes lsdb.now graph.now number (slice_get lsdb.now.links number) edge }
+    ensures { result ≡ link_excludes lsdb.now graph.now number (slice_get lsdb.now.links number)
+        edge }
 {
     match lsdb.links.as_slice().get(number as usize) {
         Some(link) => is_of_link(lsdb.routers.as_slice().len(), graph, number, link, edge),
@@ -60,8 +61,8 @@ fn link_excludes(lsdb: &Lsdb, graph: &Graph, number: u32, edge: u32) -> bool
 /// Whether an edge is of one of some links, in one direction or the other.
 fn is_of_any_link(lsdb: &Lsdb, graph: &Graph, links: &[u32], edge: u32) -> bool
     requires { edge < length graph.now.edges }
-    ensures { result ≡ list_any (λ l. link_excludes lsdb.now graph.now l (slice_get lsdb.now.links l)
-        edge) links.now }
+    ensures { result ≡ list_any (λ l. link_excludes lsdb.now graph.now l
+        (slice_get lsdb.now.links l) edge) links.now }
 {
     links
         .iter()

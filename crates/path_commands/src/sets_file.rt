@@ -8,7 +8,7 @@ ghost use Rattle.path_commands.specs.SetFiles.{AreSetsIn, sets_read};
 
 use cost_base::Shelf;
 use design_problem::Problem;
-use input_files::{Stop, read_file, stop_of};
+use input_files::{Stop, read_file, said_or_stop};
 use set_reader::{Sets, read_sets};
 use std::alloc::Global;
 
@@ -32,8 +32,5 @@ pub(crate) fn read_sets_file<'a, S: Shelf>(
     ensures lawful { IfOk result (AreSetsOf problem.now) }
 {
     let bytes = read_file(alloc, shelf, name, LONGEST_SETS)?;
-    match read_sets(alloc, &bytes, problem) {
-        Ok(sets) => Ok(sets),
-        Err(refusal) => Err(stop_of(refusal, name)),
-    }
+    said_or_stop(read_sets(alloc, &bytes, problem), name)
 }

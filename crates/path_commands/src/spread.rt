@@ -1,6 +1,6 @@
 //! `spread`: traffic over exactly the wanted paths, in the sets that a file says.
 ghost use Rattle.std.specs.Prelude.{◌≡◌, ℕ, List, IfOk};
-ghost use Rattle.command_words.specs.Jobs.{limits_seen};
+ghost use Rattle.wide_fraction.specs.SearchLimits.{limits_seen};
 ghost use Rattle.input_files.specs.Inputs.{InputFiles};
 ghost use Rattle.input_files.specs.Outcomes.{Input};
 ghost use Rattle.input_files.specs.Readings.{Gave};

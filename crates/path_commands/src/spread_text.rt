@@ -16,22 +16,22 @@ ghost use Rattle.path_commands.specs.Spreads.{front_lines, set_rows_lines, sprea
 use cost_base::OutOfMemory;
 use design_problem::{CapTree, CostList, Costs, Problem, Tree};
 use evidence_text::{TreePart, push_costs, push_tree};
-use printed_parts::{
-    at_greatest_bound, costs_by_name, counted_line, head_lines, number_line, push_count_line,
-    push_line,
-};
+use line_builder::{LineBuilder, head_lines, push_count_line, push_line};
+use printed_parts::{at_greatest_bound, costs_by_name};
 use spread_sets::{SetRow, Spread};
 use std::alloc::Global;
 
 /// The line of a row.
-fn set_row_line(alloc: Global, row: &SetRow) -> Result<Vec<u8>, OutOfMemory>
-    ensures { IfOk result (λ line. line.items ≡ set_row_line row.now) }
+fn set_row_line(alloc: Global, row: &SetRow) -> Result<LineBuilder, OutOfMemory>
+    ensures { IfOk result (λ line. line ≡ set_row_line row.now) }
 {
     match row {
-        SetRow::Rival(set, rival) => {
-            counted_line(alloc, b"row", u64::from(*set), rival.as_slice())
+        SetRow::Outsider(set, outsider) => {
+            LineBuilder::of_count(alloc, b"row", u64::from(*set), outsider.as_slice())
         }
-        SetRow::Same(set, first, other) => number_line(alloc, b"same", &[*set, *first, *other]),
+        SetRow::Same(set, first, other) => {
+            LineBuilder::of_numbers(alloc, b"same", &[*set, *first, *other])
+        }
     }
 }
 
@@ -41,7 +41,7 @@ fn push_set_row(alloc: Global, text: &mut Vec<u8>, row: &SetRow) -> Result<(), O
         (set_row_line row.now ∷ [])) }
 {
     let line = set_row_line(alloc, row)?;
-    push_line(text, line.as_slice())
+    line.end_in(text)
 }
 
 /// Adds the lines of rows.
@@ -60,18 +60,18 @@ fn push_trees(
     alloc: Global,
     text: &mut Vec<u8>,
     proof: Option<&CapTree>,
-    unfinished: Option<&CapTree>,
+    undecided: Option<&CapTree>,
 ) -> Result<(), OutOfMemory>
     requires proof { AreShort (tree_lines (codes "proof") (option_copied proof)) }
-    requires unfinished { AreShort (tree_lines (codes "open") (option_copied unfinished)) }
+    requires undecided { AreShort (tree_lines (codes "open") (option_copied undecided)) }
     ensures { OnOk result
         (text.new.items ≡
         ((text.old.items ++ with_ends (tree_lines (codes "proof") (option_copied proof.entry))) ++
-        with_ends (tree_lines (codes "open") (option_copied unfinished.entry))) ++
+        with_ends (tree_lines (codes "open") (option_copied undecided.entry))) ++
         with_ends (codes "end" ∷ [])) }
 {
     push_tree(alloc, text, TreePart::Proof, proof)?;
-    push_tree(alloc, text, TreePart::Unfinished, unfinished)?;
+    push_tree(alloc, text, TreePart::Undecided, undecided)?;
     push_line(text, b"end")
 }
 

@@ -45,13 +45,13 @@ prices_link a d l (link ∷ links) asked each none =
     by_range AsItIs none = by_cost link.cost a.default_cost (All-head (IsDatabaseLink d) link links each).cost asked.default none
 
 pub assembled : (a : Asked) (d : Database) (prices : List Price) (graph : Area) (vars : List VarName)
-    (low high : List ℕ) (paths : List Request) → prices ≡ prices_from a d 0 d.links → graph ≡ graph_at d prices →
+    (low high : List ℕ) (requests : List Request) → prices ≡ prices_from a d 0 d.links → graph ≡ graph_at d prices →
     vars ≡ names_from a d 0 d.links → low ≡ map low_of (ranges a d) → high ≡ map high_of (ranges a d) →
-    paths ≡ filter_map (λ item. request_of d (outline d) item.what) a.items →
-    ◌≡◌ {A = DesignProblem} (record { graph = graph; vars = vars; low = low; high = high; paths = paths })
+    requests ≡ filter_map (λ item. request_of d (outline d) item.what) a.items →
+    ◌≡◌ {A = DesignProblem} (record { graph = graph; vars = vars; low = low; high = high; requests = requests })
     (problem_of a d)
-assembled a d prices graph vars low high paths are is names lows highs wanted =
+assembled a d prices graph vars low high requests are is names lows highs wanted =
     let g = graph_at d (prices_from a d 0 d.links) in
-    same_whole_problem (record { graph = graph; vars = vars; low = low; high = high; paths = paths }) (problem_of a d)
+    same_whole_problem (record { graph = graph; vars = vars; low = low; high = high; requests = requests }) (problem_of a d)
     (is ∙ ap (graph_at d) are) names lows highs
     (wanted ∙ sym (requests_same d g (outline d) a.items (as_outline d (prices_from a d 0 d.links) (prices_count a d 0 d.links))))

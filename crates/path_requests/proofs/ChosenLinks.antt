@@ -14,7 +14,7 @@ use Rattle.lsdb_build.specs.declared.Linked.{Linked}
 use Rattle.lsdb_build.specs.Graphs.{Database, IsAreaDatabase}
 use Rattle.request_reader.specs.declared.Directive.{Directive}
 use Rattle.request_reader.specs.declared.Directive.TheVariants.{FreeAll, Free, Fix, Path, SymmetricAll, Symmetric}
-use Rattle.request_reader.specs.declared.Item.{Item}
+use Rattle.request_reader.specs.declared.DirectiveLine.{DirectiveLine}
 use Rattle.wanted_paths.specs.Paths.{is_link_named, link_number}
 use Rattle.path_requests.specs.Meaning.{says_symmetric}
 use Rattle.wanted_paths.specs.Resolution.{knows_link}
@@ -86,7 +86,8 @@ pub decided_unknown : {X : Type 0} (d : Database) (router interface : List ℕ) 
     map f d.links ≡ map (λ link.
     option_or (f link) (if is_link_named d router interface link then Some range else None)) d.links
 decided_unknown d router interface f range unknown =
-    map_agree (is_link_named d router interface) f (λ link. option_or (f link) (if is_link_named d router interface link then Some range else None)) d.links unknown
+    map_agree (is_link_named d router interface) f (λ link. option_or (f link) (if is_link_named d router interface link then Some range else None)) d.links
+    unknown
     (λ link unnamed. or_none (f link) ∙ ap (λ b. option_or (f link) (if b then Some range else None)) (sym unnamed))
 
 pub number_within : (d : Database) (router interface : List ℕ) → IsAreaDatabase d → knows_link d router interface ≡ true →
@@ -121,7 +122,8 @@ marked_unknown d router interface f unknown =
 
 -- Lines that make links symmetric.
 
-tied_apart : (d : Database) (link : Linked) (directive : Directive) → says_symmetric d link directive ≡ ((ties_all directive && is_some link.link_back) || ties_one d link directive)
+tied_apart : (d : Database) (link : Linked) (directive : Directive) →
+    says_symmetric d link directive ≡ ((ties_all directive && is_some link.link_back) || ties_one d link directive)
 tied_apart d link SymmetricAll = sym (or-false (is_some link.link_back))
 tied_apart d link (Symmetric router interface) = refl
 tied_apart d link (FreeAll lo hi) = refl
@@ -141,7 +143,7 @@ regroup false true false x y = refl
 regroup false false false x y = refl
 
 -- all lines that make all links symmetric, and then those that name one
-pub any_apart : (d : Database) (link : Linked) (items : List Item) →
+pub any_apart : (d : Database) (link : Linked) (items : List DirectiveLine) →
     list_any (λ item. says_symmetric d link item.what) items
     ≡ ((list_any (λ item. ties_all item.what) items && is_some link.link_back)
     || list_any (λ item. ties_one d link item.what) items)
@@ -152,7 +154,7 @@ any_apart d link (item ∷ items) =
     ∙ regroup (ties_all item.what) (list_any (λ item. ties_all item.what) items) (is_some link.link_back)
     (ties_one d link item.what) (list_any (λ item. ties_one d link item.what) items)
 
-pub all_apart : (d : Database) (items : List Item) →
+pub all_apart : (d : Database) (items : List DirectiveLine) →
     map (λ link. (list_any (λ item. ties_all item.what) items && is_some link.link_back)
     || list_any (λ item. ties_one d link item.what) items) d.links
     ≡ map (λ link. list_any (λ item. says_symmetric d link item.what) items) d.links
@@ -162,7 +164,7 @@ all_apart d items = ap (λ (f : Linked → Bool). map f d.links) (λ t link. sym
 pub tied_none : (d : Database) (f : Linked → Bool) → map f d.links ≡ map (λ link. f link || false) d.links
 tied_none d f = ap (λ (g : Linked → Bool). map g d.links) (λ t link. sym (or-false (f link)) t)
 
-pub tied_more : (d : Database) (items : List Item) (i : ℕ) (item : Item) (f : Linked → Bool) → i < length items →
+pub tied_more : (d : Database) (items : List DirectiveLine) (i : ℕ) (item : DirectiveLine) (f : Linked → Bool) → i < length items →
     item ≡ get_or items i item →
     map (λ link. (f link || list_any (λ other. ties_one d link other.what) (take i items)) || ties_one d link item.what)
     d.links ≡ map (λ link. f link || list_any (λ other. ties_one d link other.what) (take (i + 1) items)) d.links
@@ -174,5 +176,5 @@ tied_more d items i item f within is = ap (λ (g : Linked → Bool). map g d.lin
     each link =
         or_assoc (f link) (list_any (λ other. ties_one d link other.what) (take i items)) (ties_one d link item.what)
         ∙ ap (λ b. f link || b)
-        (ap (λ (x : Item). list_any (λ other. ties_one d link other.what) (take i items) || ties_one d link x.what) is
+        (ap (λ (x : DirectiveLine). list_any (λ other. ties_one d link other.what) (take i items) || ties_one d link x.what) is
         ∙ sym (list_any_more (λ other. ties_one d link other.what) items i item within))

@@ -10,18 +10,9 @@ use Rattle.lsdb_build.specs.declared.Linked.{Linked}
 pub link_there : (links : List Linked) (i : ℕ) (link : Linked) → i < length links → link ≡ get_or links i link → slice_get links i ≡ Some link
 link_there links i link within is = slice_get-get_or links i link within ∙ ap Some (sym is)
 
--- what the next link adds is added
-pub added : {A : Type 0} → (F : List Linked → List A) (links : List Linked) (i : ℕ) (link : Linked) (before made now all rest : List A) →
-    i < length links → link ≡ get_or links i link → F (link ∷ drop (i + 1) links) ≡ made ++ rest →
-    now ≡ before ++ made → before ++ F (drop i links) ≡ all → now ++ rest ≡ all
-added {A} F links i link before made now all rest within is step is_now so_far =
-    let left : F (drop i links) ≡ made ++ rest = at_drop_more F links i link within
-    ∙ ap (λ (l : Linked). F (l ∷ drop (i + 1) links)) (sym is) ∙ step in
-    ap (λ (ys : List A). ys ++ rest) is_now ∙ append_assoc {A = A} before made rest
-    ∙ ap (λ (ys : List A). before ++ ys) (sym left) ∙ so_far
-
 -- what a function makes of one link more, or of one item
-pub one_more : {X A : Type 0} → (f : X → A) (read xs : List X) (i : ℕ) (x : X) (before now : List A) (y : A) → read ≡ xs → i < length read → x ≡ get_or read i x →
+pub one_more : {X A : Type 0} → (f : X → A) (read xs : List X) (i : ℕ) (x : X) (before now : List A) (y : A) → read ≡ xs → i < length read →
+    x ≡ get_or read i x →
     before ≡ map f (take i xs) → y ≡ f x → now ≡ before ++ y ∷ [] → now ≡ map f (take (i + 1) xs)
 one_more {X} {A} f read xs i x before now y same within is are makes is_now =
     let there : i < length xs = omega (arith, ap length same, within) in
@@ -35,7 +26,8 @@ bound_first bound (Some x) xs = refl
 
 -- the bound of one variable more
 pub bound_added : {R : Type 0} → (bound : R → ℕ) (range : ℕ → Option R) (own : List ℕ) (i : ℕ) (before now : List ℕ) → i < length own →
-    now ≡ before ++ map bound (option_to_list (range (get_or own i 0))) → before ++ map bound (filter_map range (drop i own)) ≡ map bound (filter_map range own) →
+    now ≡ before ++ map bound (option_to_list (range (get_or own i 0))) →
+    before ++ map bound (filter_map range (drop i own)) ≡ map bound (filter_map range own) →
     now ++ map bound (filter_map range (drop (i + 1) own)) ≡ map bound (filter_map range own)
 bound_added {R} bound range own i before now within is_now so_far =
     let bounds : List ℕ → List ℕ = λ links. map bound (filter_map range links) in

@@ -13,7 +13,7 @@ use Rattle.lsdb_build.specs.declared.Linked.{Linked}
 use Rattle.lsdb_build.specs.Graphs.{Database}
 use Rattle.request_reader.specs.declared.Directive.{Directive}
 use Rattle.request_reader.specs.declared.Directive.TheVariants.{FreeAll, Free, Fix, Path, SymmetricAll, Symmetric}
-use Rattle.request_reader.specs.declared.Item.{Item}
+use Rattle.request_reader.specs.declared.DirectiveLine.{DirectiveLine}
 use Rattle.request_reader.specs.Asked.{Asked, IsAsked, HasGoodBounds, is_path}
 use Rattle.path_requests.specs.Meaning.{Range, AsItIs, range_said, range_of, own, owners, present_cost, prices_from, names_from}
 use Rattle.wanted_paths.specs.Paths.{request_of}
@@ -22,7 +22,7 @@ use Rattle.wanted_paths.specs.LineFaults.{directive_faults, line_faults}
 use Rattle.cost_base.proofs.ListLemmas.{append-none}
 use Rattle.wanted_paths.proofs.LookUps.{none_passing}
 
-abbrev kept : Item → Bool
+abbrev kept : DirectiveLine → Bool
 kept item = not (says_freedom item.what)
 
 said_none : (d : Database) (link : Linked) (directive : Directive) → says_freedom directive ≡ false → range_said d link directive ≡ None
@@ -33,7 +33,7 @@ said_none d link (Path route without) free = refl
 said_none d link SymmetricAll free = refl
 said_none d link (Symmetric router interface) free = refl
 
-none_said : (d : Database) (link : Linked) (items : List Item) → filter_map (λ item. range_said d link item.what) (filter kept items) ≡ []
+none_said : (d : Database) (link : Linked) (items : List DirectiveLine) → filter_map (λ item. range_said d link item.what) (filter kept items) ≡ []
 none_said d link [] = refl
 none_said d link (item ∷ items) =
     elim (cases_Bool (says_freedom item.what)) [
@@ -73,7 +73,7 @@ request_none d g SymmetricAll says = absurd (false≢true says)
 request_none d g (Symmetric router interface) says = absurd (false≢true says)
 
 -- the paths are the same
-pub present_paths : (d : Database) (g : Area) (items : List Item) →
+pub present_paths : (d : Database) (g : Area) (items : List DirectiveLine) →
     filter_map (λ item. request_of d g item.what) items ≡ filter_map (λ item. request_of d g item.what)
     (filter kept items)
 present_paths d g [] = refl
@@ -84,7 +84,7 @@ present_paths d g (item ∷ items) =
     ]
 
 -- lines without a fault stay so
-pub present_lines : (d : Database) (items : List Item) → line_faults d items ≡ [] → line_faults d (filter kept items) ≡ []
+pub present_lines : (d : Database) (items : List DirectiveLine) → line_faults d items ≡ [] → line_faults d (filter kept items) ≡ []
 present_lines d [] none = refl
 present_lines d (item ∷ items) none =
     let parts = append-none (directive_faults d item.line item.what) (line_faults d items) none in
@@ -121,24 +121,24 @@ none_ties a d (Symmetric router interface) = by_link (slice_get d.links _)
     by_link (Some link) = same_ends a d link
 
 -- no ends differ
-pub present_ends : (a : Asked) (d : Database) (items : List Item) → ends_faults (present_asked a) d items ≡ []
+pub present_ends : (a : Asked) (d : Database) (items : List DirectiveLine) → ends_faults (present_asked a) d items ≡ []
 present_ends a d [] = refl
 present_ends a d (item ∷ items) = rw (none_ties a d item.what) (present_ends a d items)
 
-bounds_kept : (items : List Item) → All (λ item. HasGoodBounds item.what) items → All (λ item. HasGoodBounds item.what) (filter kept items)
-bounds_kept [] keeps = All-nil (λ (i : Item). HasGoodBounds i.what)
+bounds_kept : (items : List DirectiveLine) → All (λ item. HasGoodBounds item.what) items → All (λ item. HasGoodBounds item.what) (filter kept items)
+bounds_kept [] keeps = All-nil (λ (i : DirectiveLine). HasGoodBounds i.what)
 bounds_kept (item ∷ items) keeps =
-    let rest = bounds_kept items (All-tail (λ (i : Item). HasGoodBounds i.what) item items keeps) in
+    let rest = bounds_kept items (All-tail (λ (i : DirectiveLine). HasGoodBounds i.what) item items keeps) in
     elim (cases_Bool (says_freedom item.what)) [
       | inl says ↦ rw says rest
-      | inr silent ↦ rw silent (All-cons (λ (i : Item). HasGoodBounds i.what) item (filter kept items)
-          (All-head (λ (i : Item). HasGoodBounds i.what) item items keeps) rest)
+      | inr silent ↦ rw silent (All-cons (λ (i : DirectiveLine). HasGoodBounds i.what) item (filter kept items)
+          (All-head (λ (i : DirectiveLine). HasGoodBounds i.what) item items keeps) rest)
     ]
 
-count_cons : (item : Item) (items : List Item) → count_by is_path (item ∷ items) ≡ cond (is_path item) 1 0 + count_by is_path items
-count_cons item items = sum_by-cons (λ (i : Item). cond (is_path i) 1 0) item items
+count_cons : (item : DirectiveLine) (items : List DirectiveLine) → count_by is_path (item ∷ items) ≡ cond (is_path item) 1 0 + count_by is_path items
+count_cons item items = sum_by-cons (λ (i : DirectiveLine). cond (is_path i) 1 0) item items
 
-fewer_kept : (items : List Item) → count_by is_path (filter kept items) ≤ count_by is_path items
+fewer_kept : (items : List DirectiveLine) → count_by is_path (filter kept items) ≤ count_by is_path items
 fewer_kept [] = omega arith
 fewer_kept (item ∷ items) =
     let rest = fewer_kept items in

@@ -22,5 +22,5 @@ subnets_priced n links vertex (members ∷ subnets) =
     (subnets_priced n links (vertex + 1) subnets)
 
 -- problems with the same parts are one
-pub same_whole_problem : (p q : DesignProblem) → p.graph ≡ q.graph → p.vars ≡ q.vars → p.low ≡ q.low → p.high ≡ q.high → p.paths ≡ q.paths → p ≡ q
-same_whole_problem p q = same_problem p.graph q.graph p.vars q.vars p.low q.low p.high q.high p.paths q.paths
+pub same_whole_problem : (p q : DesignProblem) → p.graph ≡ q.graph → p.vars ≡ q.vars → p.low ≡ q.low → p.high ≡ q.high → p.requests ≡ q.requests → p ≡ q
+same_whole_problem p q = same_problem p.graph q.graph p.vars q.vars p.low q.low p.high q.high p.requests q.requests

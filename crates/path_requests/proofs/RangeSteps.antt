@@ -11,12 +11,12 @@ use Rattle.lsdb_build.specs.declared.Linked.{Linked}
 use Rattle.lsdb_build.specs.Graphs.{Database}
 use Rattle.request_reader.specs.declared.Directive.{Directive}
 use Rattle.request_reader.specs.declared.Directive.TheVariants.{FreeAll, Free, Fix, Path, SymmetricAll, Symmetric}
-use Rattle.request_reader.specs.declared.Item.{Item}
+use Rattle.request_reader.specs.declared.DirectiveLine.{DirectiveLine}
 use Rattle.path_requests.specs.Meaning.{Range, Within, AsItIs, range_said, range_by}
 use Rattle.path_requests.specs.Chosen.{said_of_all, said_of_one, last_said}
 
 -- the range after some lines, from the one before them on
-abbrev pub range_after : Database → Linked → Range → List Item → Range
+abbrev pub range_after : Database → Linked → Range → List DirectiveLine → Range
 range_after d link range [] = range
 range_after d link range (item ∷ items) = range_after d link (unwrap_or (range_said d link item.what) range) items
 
@@ -24,7 +24,7 @@ last_or : {X : Type 0} (x y : X) (xs : List X) → unwrap_or (last_of (x ∷ xs)
 last_or x y [] = refl
 last_or x y (z ∷ xs) = last_or z y xs ∙ sym (last_or z x xs)
 
-pub range_is : (d : Database) (link : Linked) (items : List Item) (range : Range) →
+pub range_is : (d : Database) (link : Linked) (items : List DirectiveLine) (range : Range) →
     range_after d link range items ≡ unwrap_or (last_of (filter_map (λ item. range_said d link item.what) items)) range
 range_is d link [] range = refl
 range_is d link (item ∷ items) range = range_is d link items (unwrap_or (range_said d link item.what) range) ∙ by_said (range_said d link item.what)
@@ -38,7 +38,7 @@ range_is d link (item ∷ items) range = range_is d link items (unwrap_or (range
 
 -- Backwards: what a line says counts where no later one says anything.
 
-last_more : (d : Database) (link : Linked) (item : Item) (items : List Item) →
+last_more : (d : Database) (link : Linked) (item : DirectiveLine) (items : List DirectiveLine) →
     last_said d link (item ∷ items) ≡ option_or (last_said d link items) (range_said d link item.what)
 last_more d link item items = by_said (range_said d link item.what)
   where
@@ -61,7 +61,8 @@ one_said d link (Path route without) none = refl
 one_said d link SymmetricAll none = refl
 one_said d link (Symmetric router interface) none = refl
 
-all_said : (d : Database) (link : Linked) (directive : Directive) (range : Range) → said_of_all directive ≡ Some range → range_said d link directive ≡ Some range
+all_said : (d : Database) (link : Linked) (directive : Directive) (range : Range) → said_of_all directive ≡ Some range →
+    range_said d link directive ≡ Some range
 all_said d link (FreeAll lo hi) range is = is
 all_said d link (Free router interface lo hi) range is = absurd (cc)
 all_said d link (Fix router interface) range is = absurd (cc)
@@ -70,14 +71,14 @@ all_said d link SymmetricAll range is = absurd (cc)
 all_said d link (Symmetric router interface) range is = absurd (cc)
 
 -- one line more, going backwards, that doesn't speak of all links
-pub decided_more : (d : Database) (items : List Item) (i next : ℕ) (other : Item) → next ≡ i + 1 → i < length items →
+pub decided_more : (d : Database) (items : List DirectiveLine) (i next : ℕ) (other : DirectiveLine) → next ≡ i + 1 → i < length items →
     said_of_all (get_or items i other).what ≡ None →
     map (λ link. option_or (last_said d link (drop next items)) (said_of_one d link (get_or items i other).what))
     d.links ≡ map (λ link. last_said d link (drop i items)) d.links
 decided_more d items i next other step within none =
     ap (λ (f : Linked → Option Range). map f d.links) (λ t link. each link t)
   where
-    item : Item
+    item : DirectiveLine
     item = get_or items i other
 
     each : (link : Linked) → option_or (last_said d link (drop next items)) (said_of_one d link item.what) ≡ last_said d link (drop i items)
@@ -88,7 +89,7 @@ decided_more d items i next other step within none =
         ∙ ap (last_said d link) (sym (drop_more items i other within))
 
 -- from a line on that speaks of all links, only what comes later counts
-from_all : (d : Database) (link : Linked) (items : List Item) (i : ℕ) (other : Item) (range before : Range) →
+from_all : (d : Database) (link : Linked) (items : List DirectiveLine) (i : ℕ) (other : DirectiveLine) (range before : Range) →
     i < length items → said_of_all (get_or items i other).what ≡ Some range →
     range_after d link before items ≡ unwrap_or (last_said d link (drop (i + 1) items)) range
 from_all d link [] i other range before within all = absurd (omega (arith, within))
@@ -99,7 +100,7 @@ from_all d link (item ∷ items) (suc i) other range before within all =
     from_all d link items i other range (unwrap_or (range_said d link item.what) before) (omega (arith, within)) all
     ∙ ap (λ n. unwrap_or (last_said d link (drop n (item ∷ items))) range) next
 
-pub decided_by_all : (d : Database) (items : List Item) (i next : ℕ) (other : Item) (range : Range) → next ≡ i + 1 →
+pub decided_by_all : (d : Database) (items : List DirectiveLine) (i next : ℕ) (other : DirectiveLine) (range : Range) → next ≡ i + 1 →
     i < length items → said_of_all (get_or items i other).what ≡ Some range →
     map (λ said. unwrap_or said range) (map (λ link. last_said d link (drop next items)) d.links)
     ≡ map (λ link. range_by d link items) d.links
@@ -112,8 +113,8 @@ decided_by_all d items i next other range step within all =
         ap (λ n. unwrap_or (last_said d link (drop n items)) range) step
         ∙ sym (from_all d link items i other range AsItIs within all) ∙ range_is d link items AsItIs
 
--- once all lines were asked, the links that are undecided are fixed
-pub decided_by_none : (d : Database) (items : List Item) →
+-- once all lines were asked, the links that have no range are fixed
+pub decided_by_none : (d : Database) (items : List DirectiveLine) →
     map (λ said. unwrap_or said AsItIs) (map (λ link. last_said d link items) d.links)
     ≡ map (λ link. range_by d link items) d.links
 decided_by_none d items = map-map (λ said. unwrap_or said AsItIs) (λ link. last_said d link items) d.links

@@ -2,11 +2,10 @@
 use Rattle.std.proofs.Common.{◌≡◌, ◌++◌, length, None}
 use Rattle.std.specs.Prelude.{nat_le}
 use Rattle.std.proofs.lemmas.Bool.{leb-true}
-use Rattle.cost_base.proofs.ListLemmas.{append-none}
+use Rattle.cost_base.proofs.ListLemmas.{append-none, none_first}
 use Rattle.lsdb_build.specs.Graphs.{Database, IsAreaDatabase}
 use Rattle.design_problem.specs.Problems.{IsProblem}
 use Rattle.request_reader.specs.Asked.{Asked, IsAsked}
-use Rattle.request_reader.proofs.AskedRules.{none_first}
 use Rattle.wanted_paths.specs.declared.fault.ResolutionFault.TheVariants.{TooManyVariables}
 use Rattle.wanted_paths.specs.LineFaults.{line_faults}
 use Rattle.wanted_paths.proofs.Walks.{well_from}

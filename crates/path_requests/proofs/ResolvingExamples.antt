@@ -8,8 +8,8 @@ use Rattle.lsdb_build.specs.declared.Linked.{Linked}
 use Rattle.lsdb_build.specs.Graphs.{Database}
 use Rattle.request_reader.specs.declared.Directive.{Directive}
 use Rattle.request_reader.specs.declared.Directive.TheVariants.{FreeAll, Free, Fix, Path, SymmetricAll, Symmetric}
-use Rattle.request_reader.specs.declared.Part.TheVariants.{Router as RouterPart, Interface as InterfacePart}
-use Rattle.request_reader.specs.declared.Item.{Item}
+use Rattle.request_reader.specs.declared.Excluded.TheVariants.{Router as ExcludedRouter, Interface as ExcludedInterface}
+use Rattle.request_reader.specs.declared.DirectiveLine.{DirectiveLine}
 use Rattle.request_reader.specs.Asked.{Asked}
 use Rattle.wanted_paths.specs.declared.fault.ResolutionFault.TheVariants.{UnknownRouter, UnknownInterface, NotALink, LoopPath, PathExcluded, EndsDiffer, BrokenPath, NoCost}
 use Rattle.path_requests.specs.Resolving.{resolution_fault, present_fault, present_problem_of}
@@ -36,11 +36,11 @@ lan = record {
   subnets = (0 ∷ 1 ∷ 2 ∷ []) ∷ [];
 }
 
-abbrev line : ℕ → Directive → Item
+abbrev line : ℕ → Directive → DirectiveLine
 line n directive = record { line = n; what = directive }
 
 -- requests that first free every interface, in line 3
-abbrev asked : List Item → Asked
+abbrev asked : List DirectiveLine → Asked
 asked items = record { area = 0; default_cost = None; items = line 3 (FreeAll 1 9) ∷ items }
 
 -- a path over interfaces 0 from A through B to a last router
@@ -72,21 +72,21 @@ loop_over_lan : resolution_fault (asked (line 4 (ab_to (codes "C")) ∷ [])) lan
 loop_over_lan = refl
 
 unknown_part : resolution_fault
-    (asked (line 4 (Path (record { hops = []; last = codes "A" }) (InterfacePart (codes "Z") (codes "0") ∷ [])) ∷ []))
+    (asked (line 4 (Path (record { hops = []; last = codes "A" }) (ExcludedInterface (codes "Z") (codes "0") ∷ [])) ∷ []))
     triangle ≡ Some (UnknownRouter 4)
 unknown_part = refl
 
 -- the link is excluded in both directions
 path_excluded : resolution_fault (asked
     (line 4 (Path (record { hops = (codes "A", codes "0") ∷ []; last = codes "B" })
-    (InterfacePart (codes "B") (codes "1") ∷ [])) ∷ [])) triangle ≡ Some (PathExcluded 4)
+    (ExcludedInterface (codes "B") (codes "1") ∷ [])) ∷ [])) triangle ≡ Some (PathExcluded 4)
 path_excluded = refl
 
-start_excluded : resolution_fault (asked (line 4 (Path (record { hops = []; last = codes "A" }) (RouterPart (codes "A") ∷ [])) ∷ [])) triangle ≡ Some (PathExcluded 4)
+start_excluded : resolution_fault (asked (line 4 (Path (record { hops = []; last = codes "A" }) (ExcludedRouter (codes "A") ∷ [])) ∷ [])) triangle ≡ Some (PathExcluded 4)
 start_excluded = refl
 
 start_stays : resolution_fault
-    (asked (line 4 (Path (record { hops = []; last = codes "A" }) (InterfacePart (codes "A") (codes "0") ∷ [])) ∷ []))
+    (asked (line 4 (Path (record { hops = []; last = codes "A" }) (ExcludedInterface (codes "A") (codes "0") ∷ [])) ∷ []))
     triangle ≡ None
 start_stays = refl
 
@@ -133,6 +133,6 @@ present_problem : present_problem_of pair_asked pair ≡ record {
   vars = [];
   low = [];
   high = [];
-  paths = record { path = record { start = 0; edges = 0 ∷ [] }; end = 1; excluded = [] } ∷ [];
+  requests = record { path = record { start = 0; edges = 0 ∷ [] }; end = 1; excluded = [] } ∷ [];
 }
 present_problem = refl

@@ -12,7 +12,7 @@ use Rattle.lsdb_build.specs.declared.Linked.{Linked}
 use Rattle.lsdb_build.specs.Graphs.{Database, IsAreaDatabase, HasLinkBack, IsLinkBackOf}
 use Rattle.request_reader.specs.declared.Directive.{Directive}
 use Rattle.request_reader.specs.declared.Directive.TheVariants.{FreeAll, Free, Fix, Path, SymmetricAll, Symmetric}
-use Rattle.request_reader.specs.declared.Item.{Item}
+use Rattle.request_reader.specs.declared.DirectiveLine.{DirectiveLine}
 use Rattle.request_reader.specs.Asked.{Asked}
 use Rattle.path_requests.specs.Meaning.{Range, Within, AsItIs, range_of, is_free, is_free_at, says_symmetric, any_symmetric, is_symmetric, owner_by_link_back, owner_at, owner, own, owners, variable_of}
 use Rattle.wanted_paths.specs.LineFaults.{fault_unless}
@@ -44,7 +44,7 @@ ends_are : (a : Asked) (d : Database) (link other : Linked) (m : ℕ) → link.l
 ends_are a d link other m link_back there = rw (link_back, there) refl
 
 -- a link that a line makes symmetric has ends that don't differ
-said_same : (a : Asked) (d : Database) (items : List Item) (l : ℕ) (link : Linked) → IsAreaDatabase d →
+said_same : (a : Asked) (d : Database) (items : List DirectiveLine) (l : ℕ) (link : Linked) → IsAreaDatabase d →
     slice_get d.links l ≡ Some link → list_any (λ item. says_symmetric d link item.what) items ≡ true →
     ends_faults a d items ≡ [] → ends_differ a d link ≡ false
 said_same a d [] l link base there said none = absurd (false≢true said)
@@ -110,7 +110,8 @@ has_owner a d l link base none there free = by_link_back link.link_back refl
     moved : (k : ℕ) → k < length d.links → own a d k ≡ true → owner a d l ≡ k → HasOwner a d l
     moved k below owns same = record { within = omega (arith, same, below); owns = ap (own a d) same ∙ owns }
 
-    owner_is : (k : ℕ) (x : Linked) (m : ℕ) → slice_get d.links k ≡ Some x → x.link_back ≡ Some m → owner a d k ≡ (if is_symmetric a d x && nat_lt m k then m else k)
+    owner_is : (k : ℕ) (x : Linked) (m : ℕ) → slice_get d.links k ≡ Some x → x.link_back ≡ Some m →
+        owner a d k ≡ (if is_symmetric a d x && nat_lt m k then m else k)
     owner_is k x m at is = ap (owner_at a d k) at ∙ ap (owner_by_link_back (is_symmetric a d x) k) is
 
     within : l < length d.links

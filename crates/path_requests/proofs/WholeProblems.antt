@@ -21,10 +21,10 @@ use Rattle.lsdb_build.proofs.Pairs.{all_at}
 use Rattle.design_problem.specs.declared.problem.VarName.{VarName}
 use Rattle.design_problem.specs.declared.problem.Request.{Request}
 use Rattle.design_problem.specs.Problems.{IsProblem, MayBeExcluded, request_ends}
-use Rattle.request_reader.specs.declared.Part.{Part}
+use Rattle.request_reader.specs.declared.Excluded.{Excluded}
 use Rattle.request_reader.specs.declared.Directive.{Directive}
 use Rattle.request_reader.specs.declared.Directive.TheVariants.{FreeAll, Free, Fix, Path, SymmetricAll, Symmetric}
-use Rattle.request_reader.specs.declared.Item.{Item}
+use Rattle.request_reader.specs.declared.DirectiveLine.{DirectiveLine}
 use Rattle.request_reader.specs.WrittenRoutes.{Route}
 use Rattle.request_reader.specs.Asked.{Asked, HasGoodBounds, IsAsked, is_path_directive, is_path}
 use Rattle.path_requests.specs.Meaning.{Range, Within, AsItIs, range_said, range_of, is_free, is_free_at, low_of, high_of, owner, own, owners, variable_of, ranges, price_of, prices_from, names_from, problem_of}
@@ -52,7 +52,8 @@ use Rattle.path_requests.proofs.VariableOwners.{has_owner, variable_is, variable
 abbrev Bounds : Range → Type 0
 Bounds range = is_free range ≡ true → (1 ≤ low_of range) × (low_of range ≤ high_of range)
 
-said_bounds : (d : Database) (link : Linked) (directive : Directive) (range : Range) → HasGoodBounds directive → Bounds range → Bounds (unwrap_or (range_said d link directive) range)
+said_bounds : (d : Database) (link : Linked) (directive : Directive) (range : Range) → HasGoodBounds directive → Bounds range →
+    Bounds (unwrap_or (range_said d link directive) range)
 said_bounds d link (FreeAll lo hi) range keeps before = λ free. keeps
 said_bounds d link (Free router interface lo hi) range keeps before = by_test (is_link_named d router interface link)
   where
@@ -68,12 +69,12 @@ said_bounds d link (Path route without) range keeps before = before
 said_bounds d link SymmetricAll range keeps before = before
 said_bounds d link (Symmetric router interface) range keeps before = before
 
-after_bounds : (d : Database) (link : Linked) (range : Range) (items : List Item) →
+after_bounds : (d : Database) (link : Linked) (range : Range) (items : List DirectiveLine) →
     All (λ item. HasGoodBounds item.what) items → Bounds range → Bounds (range_after d link range items)
 after_bounds d link range [] keeps before = before
 after_bounds d link range (item ∷ items) keeps before =
-    after_bounds d link (unwrap_or (range_said d link item.what) range) items (All-tail (λ (i : Item). HasGoodBounds i.what) item items keeps)
-    (said_bounds d link item.what range (All-head (λ (i : Item). HasGoodBounds i.what) item items keeps) before)
+    after_bounds d link (unwrap_or (range_said d link item.what) range) items (All-tail (λ (i : DirectiveLine). HasGoodBounds i.what) item items keeps)
+    (said_bounds d link item.what range (All-head (λ (i : DirectiveLine). HasGoodBounds i.what) item items keeps) before)
 
 range_bounds : (a : Asked) (d : Database) (link : Linked) → IsAsked a → Bounds (range_of a d link)
 range_bounds a d link asked = subst Bounds (range_is d link a.items AsItIs) (after_bounds d link AsItIs a.items asked.bounds (λ free. absurd (false≢true free)))
@@ -199,14 +200,15 @@ names_have a d l (suc j) (first ∷ links) link at free =
 
 -- Paths
 
-avoids_excluded : (d : Database) (g : Area) (parts : List Part) (es : List ℕ) →
+avoids_excluded : (d : Database) (g : Area) (parts : List Excluded) (es : List ℕ) →
     list_any (λ e. list_any (excludes d g e) parts) es ≡ false → All (λ e. e < length g.edges) es →
     Avoids (excluded_edges d g parts) es
 avoids_excluded d g parts [] none within = tt
 avoids_excluded d g parts (e ∷ es) none within =
     let split = or_parts (list_any (excludes d g e) parts) (list_any (λ e. list_any (excludes d g e) parts) es) none in
     let below = All-head (λ e. e < length g.edges) e es within in (
-      lacks_from (excluded_edges d g parts) e (has_kept (λ e. list_any (excludes d g e) parts) 0 (length g.edges) e (omega arith) (omega (arith, below)) ∙ split.0),
+      lacks_from (excluded_edges d g parts) e (has_kept (λ e. list_any (excludes d g e) parts) 0 (length g.edges) e (omega arith) (omega (arith, below)) ∙
+          split.0),
       avoids_excluded d g parts es split.1 (All-tail (λ e. e < length g.edges) e es within),
     )
 
@@ -215,7 +217,7 @@ record IsGood (g : Area) (request : Request) : Type 0 where
   path : IsPathOf g (request_ends request) request.path.edges
   excluded : MayBeExcluded g request.excluded
 
-path_good : (d : Database) (prices : List Price) (line : ℕ) (route : Route) (parts : List Part) → IsAreaDatabase d →
+path_good : (d : Database) (prices : List Price) (line : ℕ) (route : Route) (parts : List Excluded) → IsAreaDatabase d →
     length prices ≡ length d.links → directive_faults d line (Path route parts) ≡ [] →
     IsGood (graph_at d prices)
     (record {
@@ -260,7 +262,7 @@ path_good d prices line route parts base same none =
       excluded = excluded_may_be d g parts;
     }
 
-paths_good : (d : Database) (prices : List Price) (items : List Item) → IsAreaDatabase d → length prices ≡ length d.links →
+paths_good : (d : Database) (prices : List Price) (items : List DirectiveLine) → IsAreaDatabase d → length prices ≡ length d.links →
     line_faults d items ≡ [] →
     All (IsGood (graph_at d prices)) (filter_map (λ item. request_of d (graph_at d prices) item.what) items)
 paths_good d prices [] base same none = All-nil (IsGood (graph_at d prices))
@@ -290,12 +292,12 @@ paths_good d prices (item ∷ items) base same none =
     by_directive SymmetricAll here more = more
     by_directive (Symmetric router interface) here more = more
 
-paths_count : (d : Database) (g : Area) (items : List Item) → length (filter_map (λ item. request_of d g item.what) items) ≡ count_by is_path items
+paths_count : (d : Database) (g : Area) (items : List DirectiveLine) → length (filter_map (λ item. request_of d g item.what) items) ≡ count_by is_path items
 paths_count d g [] = refl
 paths_count d g (item ∷ items) =
     by_directive item.what
     ∙ ap (λ n. cond (is_path_directive item.what) 1 0 + n) (paths_count d g items)
-    ∙ sym (sum_by-cons (λ (i : Item). cond (is_path i) 1 0) item items)
+    ∙ sym (sum_by-cons (λ (i : DirectiveLine). cond (is_path i) 1 0) item items)
   where
     by_directive : (directive : Directive) → length (cons_option (request_of d g directive)
         (filter_map (λ item. request_of d g item.what) items)) ≡ cond (is_path_directive directive) 1 0
@@ -325,7 +327,7 @@ whole_is_problem a d asked base lines ends few =
     let names = names_good a d 0 d.links base numbers stand in
     let vars = names_from a d 0 d.links in
     record {
-      paths = All-weaker (IsGood g) (λ r. IsPathOf g (request_ends r) r.path.edges) (λ r is. is.path) requests good;
+      requests = All-weaker (IsGood g) (λ r. IsPathOf g (request_ends r) r.path.edges) (λ r is. is.path) requests good;
       excluded = All-weaker (IsGood g) (λ r. MayBeExcluded g r.excluded) (λ r is. is.excluded) requests good;
       low_count = low_count ∙ sym high_count;
       var_count = omega (arith, low_count);
@@ -336,7 +338,7 @@ whole_is_problem a d asked base lines ends few =
       named = rw low_count (All-weaker (IsName n) (λ name. name.var < n) (λ name is. is.number) vars names);
       each_named = λ k within. named_at k (omega (arith, low_count));
       words = All-weaker (IsName n) (λ name. IsWord name.router × IsWord name.interface) (λ name is. (is.router, is.interface)) vars names;
-      path_count = omega (arith, paths_count d g a.items, asked.paths);
+      request_count = omega (arith, paths_count d g a.items, asked.paths);
     }
   where
     owned : All (λ l. (l < 0 + length d.links) × (own a d l ≡ true)) (owners a d)

@@ -6,7 +6,7 @@ use Rattle.lsdb_build.specs.declared.Linked.{Linked}
 use Rattle.lsdb_build.specs.Graphs.{Database}
 use Rattle.request_reader.specs.declared.Directive.{Directive}
 use Rattle.request_reader.specs.declared.Directive.TheVariants.{FreeAll, Free, Fix, SymmetricAll, Symmetric}
-use Rattle.request_reader.specs.declared.Item.{Item}
+use Rattle.request_reader.specs.declared.DirectiveLine.{DirectiveLine}
 use Rattle.request_reader.specs.Asked.{Asked}
 use Rattle.path_requests.specs.Meaning.{Range, Within, AsItIs, range_said}
 use Rattle.wanted_paths.specs.Paths.{is_link_named}
@@ -23,7 +23,7 @@ said_of_one d link (Fix router interface) = if is_link_named d router interface 
 said_of_one d link _ = None
 
 -- what the last of some lines that says a link's range says
-abbrev pub last_said : Database → Linked → List Item → Option Range
+abbrev pub last_said : Database → Linked → List DirectiveLine → Option Range
 last_said d link items = last_of (filter_map (λ item. range_said d link item.what) items)
 
 -- a line makes each link symmetric that has a link back

@@ -8,7 +8,7 @@ use Rattle.lsdb_build.specs.Graphs.{Database}
 use Rattle.design_problem.specs.Problems.{DesignProblem}
 use Rattle.request_reader.specs.declared.Directive.{Directive}
 use Rattle.request_reader.specs.declared.Directive.TheVariants.{FreeAll, Free, Fix, SymmetricAll, Symmetric}
-use Rattle.request_reader.specs.declared.Item.{Item}
+use Rattle.request_reader.specs.declared.DirectiveLine.{DirectiveLine}
 use Rattle.request_reader.specs.Asked.{Asked}
 use Rattle.wanted_paths.specs.declared.fault.ResolutionFault.{ResolutionFault}
 use Rattle.wanted_paths.specs.declared.fault.ResolutionFault.TheVariants.{EndsDiffer, TooManyVariables, NoCost}
@@ -49,7 +49,7 @@ ties_different a d (Symmetric router interface) = ends_differ_at a d (slice_get 
 ties_different a d _ = false
 
 -- the faults of the `symmetric` lines that tie links with different ranges
-abbrev pub ends_faults : Asked → Database → List Item → List ResolutionFault
+abbrev pub ends_faults : Asked → Database → List DirectiveLine → List ResolutionFault
 ends_faults a d [] = []
 ends_faults a d (item ∷ items) = fault_unless (not (ties_different a d item.what)) (EndsDiffer item.line) ++ ends_faults a d items
 

@@ -1,5 +1,5 @@
 //! What requests choose for each link of an area.
-ghost use Rattle.std.specs.Prelude.{◌≡◌, Some, slice_get, IfOk};
+ghost use Rattle.std.specs.Prelude.{◌≡◌, Some, map, slice_get, IfOk};
 ghost use Rattle.std.specs.Option.{option_and_then};
 ghost use Rattle.lsdb_build.specs.declared.Linked.{Linked as LinkValue};
 ghost use Rattle.lsdb_build.specs.Graphs.{IsAreaDatabase};
@@ -10,7 +10,7 @@ use crate::ranges::{Range, ranges_by};
 use crate::symmetric::symmetric_by;
 use cost_base::OutOfMemory;
 use lsdb_build::Linked;
-use request_reader::{Item, RequestFile};
+use request_reader::{DirectiveLine, RequestFile};
 use std::alloc::Global;
 use std::marker::Model;
 use wanted_paths::Names;
@@ -19,7 +19,7 @@ use wanted_paths::Names;
 #[derive(Drop)]
 pub struct Choices<'a> {
     names: &'a Names<'a>,
-    requests: &'a RequestFile,
+    request_file: &'a RequestFile,
     ranges: Vec<Range>,
     symmetric: Vec<bool>,
 }
@@ -31,21 +31,21 @@ impl<'a> Model for Choices<'a> {
 
     ghost Value = { Chosen };
 
-    ghost view = { λ c. record { asked = c.requests.now; database = c.names.now } };
+    ghost view = { λ c. record { asked = c.request_file.now; database = c.names.now } };
 
     ghost invariant = { λ c. record {
-      ranges : c.ranges.items ≡ map (range_of c.requests.now c.names.now) c.names.now.links;
+      ranges : c.ranges.items ≡ map (range_of c.request_file.now c.names.now) c.names.now.links;
       symmetric : c.symmetric.items ≡
-          map (λ link. any_symmetric c.requests.now c.names.now (Some link)) c.names.now.links;
+          map (λ link. any_symmetric c.request_file.now c.names.now (Some link)) c.names.now.links;
     } };
 }
 
 /// The lines of a request file.
-pub fn items(requests: &RequestFile) -> &[Item]
-    ensures value { result.now ≡ requests.now.items }
-    ensures asked { IsAsked requests.now }
+pub fn items(request_file: &RequestFile) -> &[DirectiveLine]
+    ensures value { result.now ≡ request_file.now.items }
+    ensures asked { IsAsked request_file.now }
 {
-    requests.items.as_slice()
+    request_file.items.as_slice()
 }
 
 impl<'a> Choices<'a> {
@@ -53,19 +53,19 @@ impl<'a> Choices<'a> {
     pub fn new(
         alloc: Global,
         names: &'a Names<'a>,
-        requests: &'a RequestFile,
+        request_file: &'a RequestFile,
     ) -> Result<Choices<'a>, OutOfMemory>
         ensures { IfOk result (λ choices. choices ≡ record {
-          asked = requests.now;
+          asked = request_file.now;
           database = names.now;
         }) }
     {
-        let lines = items(requests);
+        let lines = items(request_file);
         let ranges = ranges_by(alloc, names, lines)?;
         let symmetric = symmetric_by(alloc, names, lines)?;
         Ok(Choices {
             names,
-            requests,
+            request_file,
             ranges,
             symmetric,
         })
@@ -79,13 +79,13 @@ impl<'a> Choices<'a> {
     }
 
     /// The requests.
-    pub fn requests(&self) -> &RequestFile
+    pub fn request_file(&self) -> &RequestFile
         ensures value { result.now ≡ self.now.asked }
         ensures asked { IsAsked self.now.asked }
     {
         // For the prover: what the type of a request file keeps is known once its lines are read.
-        let _lines = items(self.requests);
-        self.requests
+        let _lines = items(self.request_file);
+        self.request_file
     }
 
     /// The links, in order.
@@ -94,6 +94,14 @@ impl<'a> Choices<'a> {
         ensures base { IsAreaDatabase self.now.database }
     {
         self.names.links()
+    }
+
+    /// The ranges of the links, in order.
+    pub fn ranges(&self) -> &[Range]
+        ensures { result.now ≡ map (range_of self.now.asked self.now.database)
+            self.now.database.links }
+    {
+        self.ranges.as_slice()
     }
 
     /// The range of the link of a number, where there is one.

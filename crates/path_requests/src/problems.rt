@@ -12,35 +12,18 @@ use crate::choices::Choices;
 use crate::ranges::Range;
 use crate::variables::{high_bounds, is_free, low_bounds, owner};
 use area_graph::{Graph, Price};
-use cost_base::{Listed, Name, OutOfMemory};
-use design_problem::{Problem, Request, VarName};
+use cost_base::{Listed, OutOfMemory};
+use design_problem::{Problem, Request, VarName, var_name};
 use lsdb_build::Linked;
 use request_reader::RequestFile;
 use std::alloc::Global;
-use wanted_paths::Names;
 
 /// The present cost of a link's interface; the default of the request file where it has none, and 0 where
 /// there is none.
-pub fn present_cost(requests: &RequestFile, link: &Linked) -> u16
-    ensures { result ≡ present_cost requests.now link.now }
+pub fn present_cost(request_file: &RequestFile, link: &Linked) -> u16
+    ensures { result ≡ present_cost request_file.now link.now }
 {
-    link.cost.unwrap_or(requests.default_cost.unwrap_or(0))
-}
-
-/// The name of a link with the number of its variable.
-fn name_of(alloc: Global, names: &Names, link: &Linked, var: u32) -> Result<VarName, OutOfMemory>
-    ensures { IfOk result
-        (λ name. name ≡ record {
-          router = slice_index_or names.now.routers link.now.router [];
-          interface = link.now.interface;
-          var = var;
-        }) }
-{
-    Ok(VarName {
-        router: Name::from_bytes(alloc, names.router_name(link.router))?,
-        interface: Name::from_bytes(alloc, link.interface.as_bytes())?,
-        var,
-    })
+    link.cost.unwrap_or(request_file.default_cost.unwrap_or(0))
 }
 
 /// Choices, and the links with a variable of their own in order, by which the variables are numbered.
@@ -76,7 +59,7 @@ impl<'a> Numbering<'a> {
     {
         match self.choices.range_of(number) {
             Range::Within(_, _) => Price::Var(self.variable_of(number, link)),
-            Range::AsItIs => Price::Fixed(present_cost(self.choices.requests(), link)),
+            Range::AsItIs => Price::Fixed(present_cost(self.choices.request_file(), link)),
         }
     }
 
@@ -113,7 +96,8 @@ impl<'a> Numbering<'a> {
     {
         if is_free(self.choices.range_of(number)) {
             let var = self.variable_of(number, link);
-            let name = name_of(alloc, self.choices.names(), link, var)?;
+            let router = self.choices.names().router_name(link.router);
+            let name = var_name(alloc, router, link.interface.as_bytes(), var)?;
             made.push(name)?;
         }
         Ok(())
@@ -140,7 +124,7 @@ impl<'a> Numbering<'a> {
             self.now.choices.now.database.links)) }
     {
         // For the prover: what the types of a request file and of an area keep is known once their parts are read.
-        let _requests = self.choices.requests();
+        let _request_file = self.choices.request_file();
         let _links = self.choices.links();
         let prices = self.prices(alloc)?;
         self.choices.names().graph(alloc, prices.as_slice())
@@ -152,12 +136,12 @@ pub fn assemble(
     alloc: Global,
     choices: &Choices,
     own: &[u32],
-    paths: Vec<Request>,
+    requests: Vec<Request>,
 ) -> Result<Problem, OutOfMemory>
     // The links that own a variable, at most 1,000, and the paths are those of the request file.
     requires few { length own.now ≤ 1000 }
     requires own { own.now ≡ owners choices.now.asked choices.now.database }
-    requires paths { paths.items ≡ filter_map (λ item. request_of choices.now.database
+    requires requests { requests.items ≡ filter_map (λ item. request_of choices.now.database
         (outline choices.now.database) item.what) choices.now.asked.items }
 
     // No line of the request file has a fault.
@@ -169,7 +153,7 @@ pub fn assemble(
     ensures { IfOk result (λ problem. problem ≡ problem_of choices.now.asked choices.now.database) }
 {
     // For the prover: what the types of a request file and of an area keep is known once their parts are read.
-    let _requests = choices.requests();
+    let _request_file = choices.request_file();
     let _links = choices.links();
     let numbering = Numbering { choices, own };
     let graph = numbering.priced_graph(alloc)?;
@@ -181,6 +165,6 @@ pub fn assemble(
         vars: Listed::from_items(vars),
         low: Listed::from_items(low),
         high: Listed::from_items(high),
-        paths: Listed::from_items(paths),
+        requests: Listed::from_items(requests),
     })
 }

@@ -9,7 +9,7 @@ ghost use Rattle.path_requests.specs.Resolving.{same_range};
 
 use cost_base::OutOfMemory;
 use lsdb_build::Linked;
-use request_reader::{Directive, Item};
+use request_reader::{Directive, DirectiveLine};
 use std::alloc::Global;
 use wanted_paths::Names;
 
@@ -44,7 +44,7 @@ fn said_of_all(directive: &Directive) -> Option<Range>
     }
 }
 
-/// Decides the range of the link of an interface, if it is undecided.
+/// Gives the link of an interface a range, if it has none yet.
 fn decide(
     names: &Names,
     router: &[u8],
@@ -68,7 +68,7 @@ fn decide(
     }
 }
 
-/// Decides the range of the link that a line names, if it is undecided.
+/// Gives the link that a line names a range, if it has none yet.
 fn decide_named(names: &Names, directive: &Directive, decided: &mut Vec<Option<Range>>)
     ensures { (f : LinkValue → Option Range) → decided.old.items ≡ map f names.now.links →
         decided.new.items ≡ map (λ link. option_or (f link)
@@ -99,8 +99,8 @@ fn decide_named(names: &Names, directive: &Directive, decided: &mut Vec<Option<R
     }
 }
 
-/// Decides ranges from the last line back to one that frees all links; the range of those that stay undecided.
-fn decide_lines(names: &Names, items: &[Item], decided: &mut Vec<Option<Range>>) -> Range
+/// Gives ranges from the last line back to one that frees all links; the range of those that have none then.
+fn decide_lines(names: &Names, items: &[DirectiveLine], decided: &mut Vec<Option<Range>>) -> Range
     requires { decided.old.items ≡ map (λ link. None) names.now.links }
     ensures { map (λ said. unwrap_or said result) decided.new.items ≡
         map (λ link. range_by names.now link items.now) names.now.links }
@@ -116,17 +116,13 @@ fn decide_lines(names: &Names, items: &[Item], decided: &mut Vec<Option<Range>>)
 }
 
 /// No range for each link.
-fn undecided(alloc: Global, names: &Names) -> Result<Vec<Option<Range>>, OutOfMemory>
+fn no_ranges(alloc: Global, names: &Names) -> Result<Vec<Option<Range>>, OutOfMemory>
     ensures { IfOk result (λ made. made.items ≡ map (λ link. None) names.now.links) }
 {
-    let mut made = Vec::new(alloc);
-    for _link in names.links() {
-        made.push(None)?;
-    }
-    Ok(made)
+    Ok(vec![in alloc; None; names.links().len()]?)
 }
 
-/// The ranges, of which those that are undecided are one.
+/// The ranges; for the links that have none, this one.
 fn ranges_or(
     alloc: Global,
     decided: &[Option<Range>],
@@ -144,11 +140,15 @@ fn ranges_or(
 
 /// The range of each link: the last line that says it counts. One pass over the lines, whose links are looked up by
 /// their names.
-pub fn ranges_by(alloc: Global, names: &Names, items: &[Item]) -> Result<Vec<Range>, OutOfMemory>
+pub fn ranges_by(
+    alloc: Global,
+    names: &Names,
+    items: &[DirectiveLine],
+) -> Result<Vec<Range>, OutOfMemory>
     ensures { IfOk result (λ ranges. ranges.items ≡ map (λ link. range_by names.now link items.now)
         names.now.links) }
 {
-    let mut decided = undecided(alloc, names)?;
+    let mut decided = no_ranges(alloc, names)?;
     let other = decide_lines(names, items, &mut decided);
     ranges_or(alloc, &decided, other)
 }

@@ -11,9 +11,10 @@ ghost use Rattle.wanted_paths.specs.Paths.{outline};
 ghost use Rattle.wanted_paths.specs.declared.fault.ResolutionFault.TheVariants.{TooManyVariables};
 
 use crate::choices::{Choices, items};
-use crate::present::{assemble_present, check_present};
+use crate::costless::{check_costs, check_present};
+use crate::present::assemble_present;
 use crate::problems::assemble;
-use crate::variables::{check_costs, check_ends, own_links};
+use crate::variables::{check_ends, own_links};
 use cost_base::Refusal;
 use design_problem::{Problem, Request};
 use lsdb_build::Lsdb;
@@ -32,10 +33,7 @@ fn check_count(count: usize) -> Result<(), Refusal<ResolutionFault, ()>>
         (TellsResolution (first_of (fault_unless (nat_le count 1000) TooManyVariables))) }
 {
     if count > MOST_VARIABLES {
-        return Err(Refusal::Refused {
-            fault: ResolutionFault::TooManyVariables,
-            place: (),
-        });
+        return Err(Refusal::at((), ResolutionFault::TooManyVariables));
     }
     Ok(())
 }
@@ -46,7 +44,7 @@ fn check_whole(alloc: Global, choices: &Choices) -> Result<Vec<u32>, Refusal<Res
     ensures refused { IfErr result
         (TellsResolution (first_of (whole_faults choices.now.asked choices.now.database))) }
 {
-    check_ends(choices, items(choices.requests()))?;
+    check_ends(choices, items(choices.request_file()))?;
     let own = own_links(alloc, choices)?;
     check_count(own.len())?;
     check_costs(choices)?;
@@ -57,10 +55,10 @@ fn check_whole(alloc: Global, choices: &Choices) -> Result<Vec<u32>, Refusal<Res
 fn resolve_choices(
     alloc: Global,
     choices: &Choices,
-    paths: Vec<Request>,
+    requests: Vec<Request>,
 ) -> Result<Problem, Refusal<ResolutionFault, ()>>
     requires lines { line_faults choices.now.database choices.now.asked.items ≡ [] }
-    requires paths { paths.items ≡ filter_map (λ item. request_of choices.now.database
+    requires requests { requests.items ≡ filter_map (λ item. request_of choices.now.database
         (outline choices.now.database) item.what) choices.now.asked.items }
     ensures made { IfOk result (λ p. (whole_faults choices.now.asked choices.now.database ≡ []) ×
         (p ≡ problem_of choices.now.asked choices.now.database)) }
@@ -68,71 +66,71 @@ fn resolve_choices(
         (TellsResolution (first_of (whole_faults choices.now.asked choices.now.database))) }
 {
     let own = check_whole(alloc, choices)?;
-    Ok(assemble(alloc, choices, &own, paths)?)
+    Ok(assemble(alloc, choices, &own, requests)?)
 }
 
 /// The problem of a request file whose lines have no fault, with its paths; the first fault after all lines.
 fn resolve_whole(
     alloc: Global,
     names: &Names,
-    requests: &RequestFile,
-    paths: Vec<Request>,
+    request_file: &RequestFile,
+    requests: Vec<Request>,
 ) -> Result<Problem, Refusal<ResolutionFault, ()>>
-    requires lines { line_faults names.now requests.now.items ≡ [] }
-    requires paths { paths.items ≡ filter_map (λ item. request_of names.now (outline names.now)
-        item.what) requests.now.items }
-    ensures made { IfOk result (λ p. (whole_faults requests.now names.now ≡ []) ×
-        (p ≡ problem_of requests.now names.now)) }
+    requires lines { line_faults names.now request_file.now.items ≡ [] }
+    requires requests { requests.items ≡ filter_map (λ item. request_of names.now (outline
+        names.now) item.what) request_file.now.items }
+    ensures made { IfOk result (λ p. (whole_faults request_file.now names.now ≡ []) ×
+        (p ≡ problem_of request_file.now names.now)) }
     ensures refused { IfErr result
-        (TellsResolution (first_of (whole_faults requests.now names.now))) }
+        (TellsResolution (first_of (whole_faults request_file.now names.now))) }
 {
-    let choices = Choices::new(alloc, names, requests)?;
-    resolve_choices(alloc, &choices, paths)
+    let choices = Choices::new(alloc, names, request_file)?;
+    resolve_choices(alloc, &choices, requests)
 }
 
 /// The paths of a request file, whose lines have no fault; the first fault of a line.
 fn resolve_paths(
     alloc: Global,
     names: &Names,
-    requests: &RequestFile,
+    request_file: &RequestFile,
 ) -> Result<Vec<Request>, Refusal<ResolutionFault, ()>>
-    ensures made { IfOk result (λ made. (line_faults names.now requests.now.items ≡ []) ×
+    ensures made { IfOk result (λ made. (line_faults names.now request_file.now.items ≡ []) ×
         (made.items ≡ filter_map (λ item. request_of names.now (outline names.now) item.what)
-        requests.now.items)) }
+        request_file.now.items)) }
     ensures refused { IfErr result
-        (TellsResolution (first_of (line_faults names.now requests.now.items))) }
+        (TellsResolution (first_of (line_faults names.now request_file.now.items))) }
 {
     let outline = names.outline(alloc)?;
-    resolve_lines(alloc, names, &outline, items(requests))
+    resolve_lines(alloc, names, &outline, items(request_file))
 }
 
 /// `resolve` with the names of the area.
 fn resolve_named(
     alloc: Global,
     names: &Names,
-    requests: &RequestFile,
+    request_file: &RequestFile,
 ) -> Result<Problem, Refusal<ResolutionFault, ()>>
-    ensures made { IfOk result (λ p. (resolution_fault requests.now names.now ≡ None) ×
-        (p ≡ problem_of requests.now names.now)) }
-    ensures refused { IfErr result (TellsResolution (resolution_fault requests.now names.now)) }
+    ensures made { IfOk result (λ p. (resolution_fault request_file.now names.now ≡ None) ×
+        (p ≡ problem_of request_file.now names.now)) }
+    ensures refused { IfErr result (TellsResolution (resolution_fault request_file.now names.now)) }
 {
-    let paths = resolve_paths(alloc, names, requests)?;
-    resolve_whole(alloc, names, requests, paths)
+    let requests = resolve_paths(alloc, names, request_file)?;
+    resolve_whole(alloc, names, request_file, requests)
 }
 
 /// `resolve_present` with the names of the area.
 fn present_named(
     alloc: Global,
     names: &Names,
-    requests: &RequestFile,
+    request_file: &RequestFile,
 ) -> Result<Problem, Refusal<ResolutionFault, ()>>
-    ensures made { IfOk result (λ p. (present_fault requests.now names.now ≡ None) ×
-        (p ≡ present_problem_of requests.now names.now)) }
-    ensures refused { IfErr result (TellsResolution (present_fault requests.now names.now)) }
+    ensures made { IfOk result (λ p. (present_fault request_file.now names.now ≡ None) ×
+        (p ≡ present_problem_of request_file.now names.now)) }
+    ensures refused { IfErr result (TellsResolution (present_fault request_file.now names.now)) }
 {
-    let paths = resolve_paths(alloc, names, requests)?;
-    check_present(names, requests)?;
-    Ok(assemble_present(alloc, names, requests, paths)?)
+    let requests = resolve_paths(alloc, names, request_file)?;
+    check_present(names, request_file)?;
+    Ok(assemble_present(alloc, names, request_file, requests)?)
 }
 
 /// The problem that requests make of an area's routers and links: free interfaces have variables, and each wanted
@@ -146,15 +144,15 @@ fn present_named(
 /// a present cost, where there is no default. `OutOfMemory` where memory runs out.
 pub fn resolve(
     alloc: Global,
-    requests: &RequestFile,
+    request_file: &RequestFile,
     lsdb: &Lsdb,
 ) -> Result<Problem, Refusal<ResolutionFault, ()>>
-    ensures made { IfOk result (λ p. (resolution_fault requests.now lsdb.now ≡ None) ×
-        (p ≡ problem_of requests.now lsdb.now)) }
-    ensures refused { IfErr result (TellsResolution (resolution_fault requests.now lsdb.now)) }
+    ensures made { IfOk result (λ p. (resolution_fault request_file.now lsdb.now ≡ None) ×
+        (p ≡ problem_of request_file.now lsdb.now)) }
+    ensures refused { IfErr result (TellsResolution (resolution_fault request_file.now lsdb.now)) }
 {
     let names = Names::new(alloc, lsdb)?;
-    resolve_named(alloc, &names, requests)
+    resolve_named(alloc, &names, request_file)
 }
 
 /// The problem in which every interface is fixed at its present cost, or at the default, whatever the request file
@@ -166,13 +164,13 @@ pub fn resolve(
 /// where there is no default.
 pub fn resolve_present(
     alloc: Global,
-    requests: &RequestFile,
+    request_file: &RequestFile,
     lsdb: &Lsdb,
 ) -> Result<Problem, Refusal<ResolutionFault, ()>>
-    ensures made { IfOk result (λ p. (present_fault requests.now lsdb.now ≡ None) ×
-        (p ≡ present_problem_of requests.now lsdb.now)) }
-    ensures refused { IfErr result (TellsResolution (present_fault requests.now lsdb.now)) }
+    ensures made { IfOk result (λ p. (present_fault request_file.now lsdb.now ≡ None) ×
+        (p ≡ present_problem_of request_file.now lsdb.now)) }
+    ensures refused { IfErr result (TellsResolution (present_fault request_file.now lsdb.now)) }
 {
     let names = Names::new(alloc, lsdb)?;
-    present_named(alloc, &names, requests)
+    present_named(alloc, &names, request_file)
 }

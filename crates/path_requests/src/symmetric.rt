@@ -6,9 +6,9 @@ ghost use Rattle.wanted_paths.specs.Paths.{is_link_named};
 ghost use Rattle.path_requests.specs.Meaning.{says_symmetric};
 ghost use Rattle.path_requests.specs.Chosen.{ties_all, ties_one};
 
-use cost_base::OutOfMemory;
+use cost_base::{OutOfMemory, mark_within};
 use lsdb_build::Linked;
-use request_reader::{Directive, Item};
+use request_reader::{Directive, DirectiveLine};
 use std::alloc::Global;
 use wanted_paths::Names;
 
@@ -23,7 +23,7 @@ fn ties_all(directive: &Directive) -> bool
 }
 
 /// Whether one of the lines makes each link symmetric that has another end.
-fn any_ties_all(items: &[Item]) -> bool
+fn any_ties_all(items: &[DirectiveLine]) -> bool
     ensures { result ≡ list_any (λ item. ties_all item.what) items.now }
 {
     items.iter().any(|item| ties_all(&item.what))
@@ -55,12 +55,7 @@ fn mark(names: &Names, router: &[u8], interface: &[u8], marks: &mut Vec<bool>)
         link) names.now.links }
 {
     match names.find_interface(router, interface) {
-        Some(link) => {
-            let place = link as usize;
-            if place < marks.len() {
-                marks[place] = true;
-            }
-        }
+        Some(link) => mark_within(marks, link as usize),
         None => {}
     }
 }
@@ -77,7 +72,7 @@ fn mark_named(names: &Names, directive: &Directive, marks: &mut Vec<bool>)
 }
 
 /// Marks the links that lines name as symmetric.
-fn mark_lines(names: &Names, items: &[Item], marks: &mut Vec<bool>)
+fn mark_lines(names: &Names, items: &[DirectiveLine], marks: &mut Vec<bool>)
     ensures { (f : LinkValue → Bool) → marks.old.items ≡ map f names.now.links →
         marks.new.items ≡
         map (λ link. f link || list_any (λ item. ties_one names.now link item.what) items.now)
@@ -90,7 +85,11 @@ fn mark_lines(names: &Names, items: &[Item], marks: &mut Vec<bool>)
 
 /// Whether a line makes each link symmetric, without the lines of its other end. One pass over the lines, whose links
 /// are looked up by their names.
-pub fn symmetric_by(alloc: Global, names: &Names, items: &[Item]) -> Result<Vec<bool>, OutOfMemory>
+pub fn symmetric_by(
+    alloc: Global,
+    names: &Names,
+    items: &[DirectiveLine],
+) -> Result<Vec<bool>, OutOfMemory>
     ensures { IfOk result (λ marks. marks.items ≡ map (λ link.
         list_any (λ item. says_symmetric names.now link item.what) items.now) names.now.links) }
 {

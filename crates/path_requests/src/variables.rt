@@ -1,16 +1,16 @@
-//! Which links have which variables, and what each link costs.
-ghost use Rattle.std.specs.Prelude.{◌≡◌, ◌&&◌, ◌==◌, ◌<◌, ◌++◌, ◌∷◌, [], Some, filter, option_to_list, map, slice_get, IfOk, IfErr, OnOk};
+//! Which links have which variables.
+ghost use Rattle.std.specs.Prelude.{◌≡◌, ◌&&◌, ◌==◌, ◌<◌, ◌++◌, [], Some, option_to_list, map, slice_get, IfOk, IfErr, OnOk};
 ghost use Rattle.std.specs.List.{list_any, filter_map};
 ghost use Rattle.cost_base.specs.Lists.{first_of};
 ghost use Rattle.path_requests.specs.Meaning.{AsItIs, range_of, is_free, low_of, high_of, is_symmetric, owner_at, own, owners, range_at};
-ghost use Rattle.path_requests.specs.Resolving.{ends_differ, ends_differ_at, ties_different, ends_faults, lacks_cost, cost_faults};
+ghost use Rattle.path_requests.specs.Resolving.{ends_differ, ends_differ_at, ties_different, ends_faults};
 ghost use Rattle.wanted_paths.specs.LineFaults.{TellsResolution};
 
 use crate::choices::Choices;
 use crate::ranges::{Range, same_range};
-use cost_base::{OutOfMemory, Refusal};
+use cost_base::{OutOfMemory, Refusal, push_if, push_some};
 use lsdb_build::Linked;
-use request_reader::{Directive, Item, RequestFile};
+use request_reader::{Directive, DirectiveLine};
 use std::alloc::Global;
 use wanted_paths::ResolutionFault;
 
@@ -72,30 +72,14 @@ fn is_own(choices: &Choices, number: u32, link: &Linked) -> bool
     free && owner(choices, number, link) == number
 }
 
-/// Appends a link that has a variable of its own.
-fn push_own(
-    choices: &Choices,
-    number: u32,
-    link: &Linked,
-    made: &mut Vec<u32>,
-) -> Result<(), OutOfMemory>
-    requires { slice_get choices.now.database.links number ≡ Some link.now }
-    ensures { OnOk result (made.new.items ≡ made.old.items ++ filter
-        (own choices.now.asked choices.now.database) (number ∷ [])) }
-{
-    if is_own(choices, number, link) {
-        made.push(number)?;
-    }
-    Ok(())
-}
-
 /// The links that have a variable of their own, in order.
 pub fn own_links(alloc: Global, choices: &Choices) -> Result<Vec<u32>, OutOfMemory>
     ensures { IfOk result (λ made. made.items ≡ owners choices.now.asked choices.now.database) }
 {
     let mut made = Vec::new(alloc);
     for (i, link) in choices.links().iter().enumerate() {
-        push_own(choices, i as u32, link, &mut made)?;
+        let number = i as u32;
+        push_if(&mut made, number, is_own(choices, number, link))?;
     }
     Ok(made)
 }
@@ -106,10 +90,7 @@ fn push_low(choices: &Choices, number: u32, made: &mut Vec<u16>) -> Result<(), O
         (option_to_list (range_at choices.now.asked choices.now.database
         (slice_get choices.now.database.links number)))) }
 {
-    match choices.range_at(number) {
-        Some(range) => Ok(made.push(low_of(range))?),
-        None => Ok(()),
-    }
+    push_some(made, choices.range_at(number).map(low_of))
 }
 
 /// Appends the upper bound of the link of a number.
@@ -118,10 +99,7 @@ fn push_high(choices: &Choices, number: u32, made: &mut Vec<u16>) -> Result<(), 
         (option_to_list (range_at choices.now.asked choices.now.database
         (slice_get choices.now.database.links number)))) }
 {
-    match choices.range_at(number) {
-        Some(range) => Ok(made.push(high_of(range))?),
-        None => Ok(()),
-    }
+    push_some(made, choices.range_at(number).map(high_of))
 }
 
 /// The lower bounds of some links.
@@ -152,48 +130,6 @@ pub fn high_bounds(alloc: Global, choices: &Choices, own: &[u32]) -> Result<Vec<
         push_high(choices, *link, &mut made)?;
     }
     Ok(made)
-}
-
-/// Whether a fixed link has no present cost, and there is no default.
-pub fn lacks_cost(requests: &RequestFile, link: &Linked, range: Range) -> bool
-    ensures { result ≡ lacks_cost requests.now link.now range }
-{
-    match range {
-        Range::Within(_, _) => false,
-        Range::AsItIs => match (link.cost, requests.default_cost) {
-            (None, None) => true,
-            _ => false,
-        },
-    }
-}
-
-/// Whether a link is fixed, and has no cost.
-fn lacks_cost_at(choices: &Choices, number: u32, link: &Linked) -> bool
-    requires { slice_get choices.now.database.links number ≡ Some link.now }
-    ensures { result ≡ lacks_cost choices.now.asked link.now
-        (range_of choices.now.asked choices.now.database link.now) }
-{
-    lacks_cost(choices.requests(), link, choices.range_of(number))
-}
-
-/// Whether each fixed link has a cost; the first one that has none where one hasn't.
-pub fn check_costs(choices: &Choices) -> Result<(), Refusal<ResolutionFault, ()>>
-    ensures made { OnOk result (cost_faults choices.now.asked choices.now.database 0
-        choices.now.database.links ≡ []) }
-    ensures refused { IfErr result
-        (TellsResolution
-        (first_of (cost_faults choices.now.asked choices.now.database 0
-        choices.now.database.links))) }
-{
-    for (i, link) in choices.links().iter().enumerate() {
-        if lacks_cost_at(choices, i as u32, link) {
-            return Err(Refusal::Refused {
-                fault: ResolutionFault::NoCost { link: i as u32 },
-                place: (),
-            });
-        }
-    }
-    Ok(())
 }
 
 /// Whether the ends of a link differ: one is free and the other is fixed, or both are free within different bounds.
@@ -255,7 +191,10 @@ fn ties_different(choices: &Choices, any: bool, directive: &Directive) -> bool
 }
 
 /// Whether no line makes a link symmetric whose ends differ; the first that does.
-pub fn check_ends(choices: &Choices, items: &[Item]) -> Result<(), Refusal<ResolutionFault, ()>>
+pub fn check_ends(
+    choices: &Choices,
+    items: &[DirectiveLine],
+) -> Result<(), Refusal<ResolutionFault, ()>>
     ensures made { OnOk result (ends_faults choices.now.asked choices.now.database items.now ≡ []) }
     ensures refused { IfErr result
         (TellsResolution
@@ -264,10 +203,7 @@ pub fn check_ends(choices: &Choices, items: &[Item]) -> Result<(), Refusal<Resol
     let any = any_ends_differ(choices);
     for item in items {
         if ties_different(choices, any, &item.what) {
-            return Err(Refusal::Refused {
-                fault: ResolutionFault::EndsDiffer { line: item.line },
-                place: (),
-            });
+            return Err(Refusal::at((), ResolutionFault::EndsDiffer { line: item.line }));
         }
     }
     Ok(())

@@ -68,7 +68,8 @@ pub by_links : (d : Database) (w : List ℕ) → length w ≡ length d.links →
 by_links d w same =
     graph_with_prices w d (map Var (numbers_from 0 (length d.links)))
     ∙ ap (graph_at d) (map-map (fixed_at w) Var (numbers_from 0 (length d.links))
-    ∙ ap (λ n. map (λ l. Fixed (slice_index w l)) (numbers_from 0 n)) (sym same) ∙ all_places w (slice_index w) 0 (λ k within. ap (slice_index w) (omega arith)))
+    ∙ ap (λ n. map (λ l. Fixed (slice_index w l)) (numbers_from 0 n)) (sym same) ∙
+    all_places w (slice_index w) 0 (λ k within. ap (slice_index w) (omega arith)))
 
 -- so the simple paths of a request are the same
 pub path_by_links : (d : Database) (w : List ℕ) (ends : Ends) (es : List ℕ) → length w ≡ length d.links →
@@ -122,10 +123,10 @@ present_graph a d =
 
 -- its wanted paths are paths of their requests in the graph by links
 pub present_paths_by_links : (a : Asked) (d : Database) → IsProblem (present_problem_of a d) →
-    All (λ r. IsPathOf (graph_by_links d) (request_ends r) r.path.edges) (present_problem_of a d).paths
+    All (λ r. IsPathOf (graph_by_links d) (request_ends r) r.path.edges) (present_problem_of a d).requests
 present_paths_by_links a d kept =
     All-weaker (λ r. IsPathOf (present_problem_of a d).graph (request_ends r) r.path.edges)
     (λ r. IsPathOf (graph_by_links d) (request_ends r) r.path.edges)
     (λ r path. (path_by_links d (map (present_cost a) d.links) (request_ends r) r.path.edges (length-map d.links (present_cost a))).1
     (subst (λ (g : Area). IsPathOf g (request_ends r) r.path.edges) (present_graph a d) path))
-    (present_problem_of a d).paths kept.paths
+    (present_problem_of a d).requests kept.requests

@@ -1,4 +1,5 @@
--- Paths don't depend on prices: a path is only cheapest in a graph at costs where it is only cheapest in the graph under them.
+-- Paths don't depend on prices: a path is only cheapest in a graph at costs where it is only cheapest in the graph
+-- under them.
 use Rattle.std.proofs.Common.{◌≡◌, ◌↔◌, ℕ, zero, suc, refl, sym, ◌∙◌, ap, subst, List, [], ◌∷◌, length, map, get_or, arith}
 use Rattle.std.proofs.lemmas.List.{length-map}
 use Rattle.std.proofs.lemmas.List.Sums.{sum_by-cons}

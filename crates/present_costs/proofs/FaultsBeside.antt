@@ -1,20 +1,19 @@
 -- The first fault beside present costs, by the first fault of the request file.
-use Rattle.std.proofs.Common.{◌≡◌, ℕ, suc, ◌+◌, ◌<◌, get_or, drop, drop-cons, refl, sym, ◌∙◌, ap, List, [], ◌∷◌, ◌++◌, append_assoc, Bool, true, false, Option, Some, None}
-use Rattle.std.specs.Prelude.{if◌then◌else◌, ◌&&◌, nat_le, not, is_some, length}
+use Rattle.std.proofs.Common.{◌≡◌, ℕ, ◌+◌, refl, sym, ◌∙◌, ap, List, [], ◌∷◌, ◌++◌, append_assoc, Bool, true, false, Some, None}
+use Rattle.std.specs.Prelude.{if◌then◌else◌, nat_le, not, length}
 use Rattle.std.specs.List.{AllByRecursion}
 use Rattle.std.proofs.lemmas.Bool.{false≢true}
 use Rattle.cost_base.specs.Lists.{first_of}
-use Rattle.cost_base.proofs.ListLemmas.{append-none, each_append}
+use Rattle.cost_base.proofs.ListLemmas.{append-none, each_append, none_first}
 use Rattle.lsdb_build.specs.declared.Linked.{Linked}
 use Rattle.lsdb_build.specs.Graphs.{Database}
-use Rattle.request_reader.specs.declared.Part.{Part}
-use Rattle.request_reader.specs.declared.Part.TheVariants.{Router, Interface}
+use Rattle.request_reader.specs.declared.Excluded.{Excluded}
+use Rattle.request_reader.specs.declared.Excluded.TheVariants.{Router, Interface}
 use Rattle.request_reader.specs.declared.Directive.{Directive}
 use Rattle.request_reader.specs.declared.Directive.TheVariants.{FreeAll, Free, Fix, Path, SymmetricAll, Symmetric}
-use Rattle.request_reader.specs.declared.Item.{Item}
+use Rattle.request_reader.specs.declared.DirectiveLine.{DirectiveLine}
 use Rattle.request_reader.specs.WrittenRoutes.{Route}
 use Rattle.request_reader.specs.Asked.{Asked}
-use Rattle.request_reader.proofs.AskedRules.{none_first}
 use Rattle.wanted_paths.specs.declared.fault.ResolutionFault.{ResolutionFault}
 use Rattle.wanted_paths.specs.declared.fault.ResolutionFault.TheVariants.{UnknownRouter, UnknownInterface, NotALink, BrokenPath, LoopPath, PathExcluded, EndsDiffer, TooManyVariables, NoCost}
 use Rattle.wanted_paths.specs.Paths.{next_name, outline}
@@ -24,53 +23,30 @@ use Rattle.path_requests.specs.declared.ranges.Range.{Range}
 use Rattle.path_requests.specs.declared.ranges.Range.TheVariants.{Within, AsItIs}
 use Rattle.path_requests.specs.Meaning.{range_of, owners}
 use Rattle.path_requests.specs.Resolving.{ties_different, ends_faults, variable_faults, lacks_cost, cost_faults, resolution_faults, resolution_fault, present_asked}
+use Rattle.path_requests.proofs.CostlessLinks.{same_lack}
 use Rattle.path_requests.proofs.PresentLaws.{fixed}
 use Rattle.present_costs.specs.PresentCosts.{faults_beside_present, fault_beside_present}
 
 -- Links without a cost.
 
--- neither the interface nor the request file has a cost
-abbrev lacks_present : Option ℕ → Option ℕ → Bool
-lacks_present cost default = not (is_some cost) && not (is_some default)
-
--- the links without a cost, from number l on
-abbrev pub missing_from : Asked → ℕ → List Linked → List ResolutionFault
-missing_from a l [] = []
-missing_from a l (link ∷ links) = (if lacks_present link.cost a.default_cost then NoCost l ∷ [] else []) ++ missing_from a (l + 1) links
-
-lacks_is : (a : Asked) (link : Linked) → lacks_cost a link AsItIs ≡ lacks_present link.cost a.default_cost
-lacks_is a link = by_costs link.cost a.default_cost
-  where
-    by_costs : (cost default : Option ℕ) → lacks_cost (record a { default_cost = default }) (record link { cost = cost }) AsItIs ≡ lacks_present cost default
-    by_costs None None = refl
-    by_costs None (Some c) = refl
-    by_costs (Some c) None = refl
-    by_costs (Some c) (Some k) = refl
-
--- the first link of some
-pub missing_here : (a : Asked) (l : ℕ) (links : List Linked) (i : ℕ) (link : Linked) → i < length links → link ≡ get_or links i link →
-    lacks_present link.cost a.default_cost ≡ true → first_of (missing_from a l (drop i links)) ≡ Some (NoCost l)
-missing_here a l links i link within is lacks =
-    ap (λ (xs : List Linked). first_of (missing_from a l xs))
-    (drop-cons links i link within ∙ ap (λ (x : Linked). x ∷ drop (suc i) links) (sym is))
-    ∙ rw lacks refl
-
--- they are the faults of the present network
-pub missing_are : (a : Asked) (d : Database) (l : ℕ) (links : List Linked) → cost_faults (present_asked a) d l links ≡ missing_from a l links
-missing_are a d l [] = refl
-missing_are a d l (link ∷ links) = rw (fixed a d link, lacks_is (present_asked a) link, missing_are a d (l + 1) links) refl
+-- the fault of link l, where it lacks a cost
+abbrev missing_at : ℕ → Bool → List ResolutionFault
+missing_at l lacks = if lacks then NoCost l ∷ [] else []
 
 -- where each link has a cost, each fixed one has
-fewer_missing : (a : Asked) (d : Database) (l : ℕ) (links : List Linked) → missing_from a l links ≡ [] → cost_faults a d l links ≡ []
+fewer_missing : (a : Asked) (d : Database) (l : ℕ) (links : List Linked) → cost_faults (present_asked a) d l links ≡ [] → cost_faults a d l links ≡ []
 fewer_missing a d l [] none = refl
 fewer_missing a d l (link ∷ links) none =
-    let parts = append-none (if lacks_present link.cost a.default_cost then NoCost l ∷ [] else []) (missing_from a (l + 1) links) none in
-    rw (by_range (range_of a d link) parts.0) (fewer_missing a d (l + 1) links parts.1)
+    let parts = append-none (missing_at l (lacks_cost (present_asked a) link (range_of (present_asked a) d link)))
+    (cost_faults (present_asked a) d (l + 1) links) none in
+    let fixed_one : missing_at l (lacks_cost (present_asked a) link AsItIs) ≡ [] =
+    ap (λ (range : Range). missing_at l (lacks_cost (present_asked a) link range)) (sym (fixed a d link)) ∙ parts.0 in
+    rw (by_range (range_of a d link) fixed_one) (fewer_missing a d (l + 1) links parts.1)
   where
-    by_range : (range : Range) → (if lacks_present link.cost a.default_cost then NoCost l ∷ [] else []) ≡ [] →
+    by_range : (range : Range) → missing_at l (lacks_cost (present_asked a) link AsItIs) ≡ [] →
         (if lacks_cost a link range then NoCost l ∷ [] else []) ≡ []
     by_range (Within lo hi) here = refl
-    by_range AsItIs here = rw (lacks_is a link) here
+    by_range AsItIs here = ap (missing_at l) (same_lack (present_asked a) a link AsItIs refl) ∙ here
 
 -- Which faults are of costs.
 
@@ -122,11 +98,11 @@ hop_others d line [] last = router_others d line last
 hop_others d line (hop ∷ hops) last =
     both_others (interface_faults d line hop.0 hop.1) (hop_faults d line hops last) (interface_others d line hop.0 hop.1) (hop_others d line hops last)
 
-parts_others : (d : Database) (line : ℕ) (parts : List Part) → AreOthers (parts_faults d line parts)
+parts_others : (d : Database) (line : ℕ) (parts : List Excluded) → AreOthers (parts_faults d line parts)
 parts_others d line [] = tt
 parts_others d line (part ∷ parts) = both_others (part_faults d line part) (parts_faults d line parts) (by_part part) (parts_others d line parts)
   where
-    by_part : (p : Part) → AreOthers (part_faults d line p)
+    by_part : (p : Excluded) → AreOthers (part_faults d line p)
     by_part (Router router) = router_others d line router
     by_part (Interface router interface) = interface_others d line router interface
 
@@ -136,7 +112,7 @@ broken_others d line number (hop ∷ hops) last =
     both_others (if leads_on d hop (next_name hops last) then [] else BrokenPath line number ∷ []) (broken_faults d line (number + 1) hops last)
     (unless_other (leads_on d hop (next_name hops last)) (BrokenPath line number) refl) (broken_others d line (number + 1) hops last)
 
-path_others : (d : Database) (line : ℕ) (route : Route) (parts : List Part) → AreOthers (walk_faults d line route ++ without_faults d line route parts)
+path_others : (d : Database) (line : ℕ) (route : Route) (parts : List Excluded) → AreOthers (walk_faults d line route ++ without_faults d line route parts)
 path_others d line route parts =
     let words = hop_faults d line route.hops route.last in
     let joins = broken_faults d line 1 route.hops route.last in
@@ -159,12 +135,12 @@ directive_others d line (Symmetric router interface) =
     both_others (interface_faults d line router interface) (fault_unless linked (NotALink line))
     (interface_others d line router interface) (unless_other linked (NotALink line) refl)
 
-line_others : (d : Database) (items : List Item) → AreOthers (line_faults d items)
+line_others : (d : Database) (items : List DirectiveLine) → AreOthers (line_faults d items)
 line_others d [] = tt
 line_others d (item ∷ items) =
     both_others (directive_faults d item.line item.what) (line_faults d items) (directive_others d item.line item.what) (line_others d items)
 
-ends_others : (a : Asked) (d : Database) (items : List Item) → AreOthers (ends_faults a d items)
+ends_others : (a : Asked) (d : Database) (items : List DirectiveLine) → AreOthers (ends_faults a d items)
 ends_others a d [] = tt
 ends_others a d (item ∷ items) =
     let well = not (ties_different a d item.what) in
@@ -227,7 +203,7 @@ beside_resolved a d none =
 pub beside_then_resolved : (a : Asked) (d : Database) → fault_beside_present a d ≡ None → resolution_fault a d ≡ None
 beside_then_resolved a d none =
     let parts = append-none (faults_before a d) (cost_faults (present_asked a) d 0 d.links) (none_first (faults_beside_present a d) none) in
-    let costs = fewer_missing a d 0 d.links (sym (missing_are a d 0 d.links) ∙ parts.1) in
+    let costs = fewer_missing a d 0 d.links parts.1 in
     ap first_of (resolution_is a d
     ∙ ap (λ (xs : List ResolutionFault). xs ++ cost_faults a d 0 d.links) parts.0 ∙ costs)
 
@@ -252,7 +228,7 @@ pub cost_is_missing : (a : Asked) (d : Database) (l : ℕ) → resolution_fault 
 cost_is_missing a d l is none =
     let before = none_before (faults_before a d) (cost_faults a d 0 d.links) (NoCost l) (before_others a d) refl
     (ap first_of (sym (resolution_is a d)) ∙ is) in
-    let all = fewer_missing a d 0 d.links (sym (missing_are a d 0 d.links) ∙ none_first (cost_faults (present_asked a) d 0 d.links) none) in
+    let all = fewer_missing a d 0 d.links (none_first (cost_faults (present_asked a) d 0 d.links) none) in
     clash (sym (ap first_of (sym (resolution_is a d)) ∙ is) ∙ ap (λ xs. first_of (xs ++ cost_faults a d 0 d.links)) before ∙ ap first_of all)
   where
     clash : Some (NoCost l) ≡ None → ⊥

@@ -11,6 +11,7 @@ use Rattle.area_graph.specs.declared.Price.{Price}
 use Rattle.area_graph.specs.declared.Price.TheVariants.{Var}
 use Rattle.area_graph.specs.declared.Edge.{Edge}
 use Rattle.area_graph.specs.Area.{edge_at, no_edge}
+use Rattle.design_problem.specs.Rows.{is_var}
 use Rattle.lsdb_build.specs.declared.Linked.{Linked}
 use Rattle.lsdb_build.specs.Graphs.{Database, link_edges, subnet_edges}
 use Rattle.request_reader.specs.Asked.{Asked}
@@ -20,7 +21,7 @@ use Rattle.path_requests.specs.Meaning.{range_of, is_free, variable_of, present_
 use Rattle.present_costs.specs.declared.variables.Noted.{Noted}
 use Rattle.present_costs.specs.declared.variables.Noted.TheVariants.{Nothing, One, Several}
 use Rattle.present_costs.specs.PresentCosts.{costs_of_variable, common_cost, if_within, present_of_variable, present_of_variables}
-use Rattle.present_costs.specs.Noted.{noted_with, noted_after, one_noted, noted_within, is_variable}
+use Rattle.present_costs.specs.Noted.{noted_with, noted_after, one_noted, noted_within}
 
 -- The price of a link in the problem's graph.
 
@@ -53,7 +54,7 @@ pub record AreNoted (a : Asked) (d : Database) (n i : ℕ) (noted : List Noted) 
 
 -- what is noted of a variable with a link of this price more
 abbrev pub noted_by : (ℕ → Noted) → Price → ℕ → ℕ → Noted
-noted_by f price cost k = if is_variable price k then noted_with (f k) cost else f k
+noted_by f price cost k = if is_var k price then noted_with (f k) cost else f k
 
 -- the place of the variable is written
 pub noted_there : (f : ℕ → Noted) (n v cost : ℕ) (olds : List Noted) (value none : Noted) → olds ≡ map f (numbers_from 0 n) → v < length olds →
@@ -96,7 +97,7 @@ noted_nowhere f n v cost olds are past =
     rw fails refl)
 
 is_its : (a : Asked) (d : Database) (l : ℕ) (link : Linked) (range : Range) (k : ℕ) →
-    is_variable (price_of a d l link range) k ≡ (is_free range && variable_of a d l == k)
+    is_var k (price_of a d l link range) ≡ (is_free range && variable_of a d l == k)
 is_its a d l link (Within lo hi) k = refl
 is_its a d l link AsItIs k = refl
 
@@ -117,8 +118,8 @@ noted_step a d n i link price cost olds news within is priced costs was are = re
       let rest = costs_of_variable a d k (i + 1) (drop (suc i) d.links) in
       let first : drop i d.links ≡ link ∷ drop (suc i) d.links
       = drop-cons d.links i link within ∙ ap (λ (x : Linked). x ∷ drop (suc i) d.links) (sym is) in
-      let test : is_variable price k ≡ (is_free (range_of a d link) && variable_of a d i == k)
-      = ap (λ (p : Price). is_variable p k) priced ∙ is_its a d i link (range_of a d link) k in
+      let test : is_var k price ≡ (is_free (range_of a d link) && variable_of a d i == k)
+      = ap (λ (p : Price). is_var k p) priced ∙ is_its a d i link (range_of a d link) k in
       let noted : noted_by was.so_far price cost k
       ≡ (if is_free (range_of a d link) && variable_of a d i == k then noted_with (was.so_far k) (present_cost a link) else was.so_far k)
       = rw (test, costs) refl in

@@ -1,7 +1,5 @@
 -- What is noted of a variable's present costs, link by link. No public clause cites it.
-use Rattle.std.specs.Prelude.{ℕ, ◌==◌, List, [], ◌∷◌, if◌then◌else◌, slice_index, slice_index_or, Bool, false, Option, Some, None}
-use Rattle.area_graph.specs.declared.Price.{Price}
-use Rattle.area_graph.specs.declared.Price.TheVariants.{Fixed, Var, Zero}
+use Rattle.std.specs.Prelude.{ℕ, ◌==◌, List, [], ◌∷◌, if◌then◌else◌, slice_index, slice_index_or, Option, Some, None}
 use Rattle.present_costs.specs.PresentCosts.{if_within}
 use Rattle.present_costs.specs.declared.variables.Noted.{Noted}
 use Rattle.present_costs.specs.declared.variables.Noted.TheVariants.{Nothing, One, Several}
@@ -26,9 +24,3 @@ one_noted Several = None
 -- the one cost that is noted of the variable of number k, where it lies within bounds
 abbrev pub noted_within : List ℕ → List ℕ → List Noted → ℕ → Option ℕ
 noted_within low high noted k = if_within (slice_index low k) (slice_index high k) (one_noted (slice_index_or noted k Nothing))
-
--- the price is the variable of number k
-abbrev pub is_variable : Price → ℕ → Bool
-is_variable (Fixed cost) k = false
-is_variable (Var v) k = v == k
-is_variable Zero k = false

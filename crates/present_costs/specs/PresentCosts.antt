@@ -10,8 +10,8 @@ use Rattle.wanted_paths.specs.LineFaults.{line_faults}
 use Rattle.path_requests.specs.Meaning.{range_of, is_free, variable_of, present_cost, problem_of}
 use Rattle.path_requests.specs.Resolving.{ends_faults, variable_faults, cost_faults, present_asked}
 
--- all faults of a request file beside present costs, in order: those of the lines, ends that differ, too many variables;
--- and then, as in the present network, each link without a cost, free or not
+-- all faults of a request file beside present costs, in order: those of the lines, ends that differ, too many
+-- variables; and then, as in the present network, each link without a cost, free or not
 abbrev pub faults_beside_present : Asked → Database → List ResolutionFault
 faults_beside_present a d =
     line_faults d a.items ++ ends_faults a d a.items ++ variable_faults a d ++ cost_faults (present_asked a) d 0 d.links
@@ -41,7 +41,8 @@ abbrev pub if_within : ℕ → ℕ → Option ℕ → Option ℕ
 if_within low high None = None
 if_within low high (Some cost) = if nat_le low cost && nat_le cost high then Some cost else None
 
--- the present cost of the variable of number k: that of each of its links, where they have one and it lies within its bounds
+-- the present cost of the variable of number k: that of each of its links, where they have one and it lies within its
+-- bounds
 abbrev pub present_of_variable : Asked → Database → ℕ → Option ℕ
 present_of_variable a d k =
     if_within (slice_index (problem_of a d).low k) (slice_index (problem_of a d).high k) (common_cost (costs_of_variable a d k 0 d.links))

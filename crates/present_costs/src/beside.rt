@@ -1,51 +1,30 @@
 //! The problem of a request file in an area where each link has a present cost, or its first fault.
-ghost use Rattle.std.specs.Prelude.{◌≡◌, ◌&&◌, not, is_some, Some, None, IfOk, IfErr};
-ghost use Rattle.cost_base.specs.Lists.{first_of};
+ghost use Rattle.std.specs.Prelude.{◌≡◌, Some, None, IfOk, IfErr};
 ghost use Rattle.wanted_paths.specs.LineFaults.{TellsResolution};
 ghost use Rattle.path_requests.specs.Meaning.{problem_of};
-ghost use Rattle.path_requests.specs.Resolving.{cost_faults, present_asked, resolution_fault};
+ghost use Rattle.path_requests.specs.Resolving.{resolution_fault};
 ghost use Rattle.present_costs.specs.PresentCosts.{fault_beside_present};
 
 use cost_base::Refusal;
 use design_problem::Problem;
-use lsdb_build::{Linked, Lsdb};
-use path_requests::resolve;
+use lsdb_build::Lsdb;
+use path_requests::{first_without_cost, resolve};
 use request_reader::RequestFile;
 use std::alloc::Global;
 use wanted_paths::ResolutionFault;
 
-/// Whether a link has no present cost: neither a cost line nor a default.
-fn lacks_present(requests: &RequestFile, link: &Linked) -> bool
-    ensures { result ≡ (not (is_some link.now.cost) && not (is_some requests.now.default_cost)) }
-{
-    link.cost.is_none() && requests.default_cost.is_none()
-}
-
-/// The fault of the first link without a present cost.
-fn first_without_cost(requests: &RequestFile, lsdb: &Lsdb) -> Option<ResolutionFault>
-    ensures { result ≡ first_of (cost_faults (present_asked requests.now) lsdb.now 0
-        lsdb.now.links) }
-{
-    for (i, link) in lsdb.links().iter().enumerate() {
-        if lacks_present(requests, link) {
-            return Some(ResolutionFault::NoCost { link: i as u32 });
-        }
-    }
-    None
-}
-
 /// The first fault beside present costs, where this is the first one of `resolve`: a fixed link without a cost gives
 /// way to the first link without one.
 fn fault_beside_present(
-    requests: &RequestFile,
+    request_file: &RequestFile,
     lsdb: &Lsdb,
     fault: ResolutionFault,
 ) -> ResolutionFault
-    requires { resolution_fault requests.now lsdb.now ≡ Some fault }
-    ensures { fault_beside_present requests.now lsdb.now ≡ Some result }
+    requires { resolution_fault request_file.now lsdb.now ≡ Some fault }
+    ensures { fault_beside_present request_file.now lsdb.now ≡ Some result }
 {
     match fault {
-        ResolutionFault::NoCost { .. } => match first_without_cost(requests, lsdb) {
+        ResolutionFault::NoCost { .. } => match first_without_cost(request_file, lsdb) {
             Some(first) => first,
             None => fault,
         },
@@ -55,22 +34,16 @@ fn fault_beside_present(
 
 /// What stops the resolution beside present costs, where this stops `resolve`.
 fn refusal_beside_present(
-    requests: &RequestFile,
+    request_file: &RequestFile,
     lsdb: &Lsdb,
     refusal: Refusal<ResolutionFault, ()>,
 ) -> Refusal<ResolutionFault, ()>
-    requires { TellsResolution (resolution_fault requests.now lsdb.now) refusal }
-    ensures { TellsResolution (fault_beside_present requests.now lsdb.now) result }
+    requires { TellsResolution (resolution_fault request_file.now lsdb.now) refusal }
+    ensures { TellsResolution (fault_beside_present request_file.now lsdb.now) result }
 {
-    match refusal {
-        Refusal::Refused { fault, place: () } => {
-            Refusal::Refused {
-                fault: fault_beside_present(requests, lsdb, fault),
-                place: (),
-            }
-        }
-        Refusal::OutOfMemory => Refusal::OutOfMemory,
-    }
+    refusal.and_then(|fault, place| {
+        Refusal::at(place, fault_beside_present(request_file, lsdb, fault))
+    })
 }
 
 /// The problem that a request file makes of an area's routers and links, as `resolve` makes it, where each link has a
@@ -84,18 +57,19 @@ fn refusal_beside_present(
 #[tactic(auto, using(crate::proofs::FaultsBeside::beside_resolved))]
 pub fn resolve_beside_present(
     alloc: Global,
-    requests: &RequestFile,
+    request_file: &RequestFile,
     lsdb: &Lsdb,
 ) -> Result<Problem, Refusal<ResolutionFault, ()>>
-    ensures made { IfOk result (λ p. (fault_beside_present requests.now lsdb.now ≡ None) ×
-        (p ≡ problem_of requests.now lsdb.now)) }
-    ensures refused { IfErr result (TellsResolution (fault_beside_present requests.now lsdb.now)) }
+    ensures made { IfOk result (λ p. (fault_beside_present request_file.now lsdb.now ≡ None) ×
+        (p ≡ problem_of request_file.now lsdb.now)) }
+    ensures refused { IfErr result (TellsResolution (fault_beside_present request_file.now
+        lsdb.now)) }
 {
-    match resolve(alloc, requests, lsdb) {
-        Ok(problem) => match first_without_cost(requests, lsdb) {
+    match resolve(alloc, request_file, lsdb) {
+        Ok(problem) => match first_without_cost(request_file, lsdb) {
             None => Ok(problem),
-            Some(fault) => Err(Refusal::Refused { fault, place: () }),
+            Some(fault) => Err(Refusal::at((), fault)),
         },
-        Err(refusal) => Err(refusal_beside_present(requests, lsdb, refusal)),
+        Err(refusal) => Err(refusal_beside_present(request_file, lsdb, refusal)),
     }
 }

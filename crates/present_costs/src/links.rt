@@ -19,14 +19,15 @@ use std::alloc::Global;
 /// `OutOfMemory`.
 pub fn costs_of_links(
     alloc: Global,
-    requests: &RequestFile,
+    request_file: &RequestFile,
     lsdb: &Lsdb,
 ) -> Result<Vec<u16>, OutOfMemory>
-    ensures { IfOk result (λ costs. costs.items ≡ map (present_cost requests.now) lsdb.now.links) }
+    ensures { IfOk result (λ costs. costs.items ≡ map (present_cost request_file.now)
+        lsdb.now.links) }
 {
     let mut costs = Vec::new(alloc);
     for link in lsdb.links() {
-        costs.push(present_cost(requests, link))?;
+        costs.push(present_cost(request_file, link))?;
     }
     Ok(costs)
 }

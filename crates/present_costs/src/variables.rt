@@ -4,7 +4,8 @@ ghost use Rattle.cost_base.specs.Lists.{numbers_from};
 ghost use Rattle.area_graph.specs.Area.{edge_at};
 ghost use Rattle.path_requests.specs.Meaning.{problem_of};
 ghost use Rattle.present_costs.specs.PresentCosts.{costs_of_variable, if_within, present_of_variables};
-ghost use Rattle.present_costs.specs.Noted.{noted_with, noted_after, one_noted, noted_within, is_variable};
+ghost use Rattle.present_costs.specs.Noted.{noted_with, noted_after, one_noted, noted_within};
+ghost use Rattle.design_problem.specs.Rows.{is_var};
 ghost use Rattle.present_costs.specs.declared.variables.Noted.{Noted as NotedValue};
 ghost use Rattle.present_costs.specs.declared.variables.Noted.TheVariants.{Nothing};
 
@@ -54,7 +55,7 @@ pub fn price_of_link(graph: &Graph, number: u32) -> Price
 /// Notes the cost of a link whose price is a variable.
 fn note(price: Price, cost: u16, noted: &mut Vec<Noted>)
     ensures { (f : ℕ → NotedValue) (n : ℕ) → noted.old.items ≡ map f (numbers_from 0 n) →
-        noted.new.items ≡ map (λ k. if is_variable price k then noted_with (f k) cost else f k)
+        noted.new.items ≡ map (λ k. if is_var k price then noted_with (f k) cost else f k)
         (numbers_from 0 n) }
 {
     match price {
@@ -72,32 +73,26 @@ fn note(price: Price, cost: u16, noted: &mut Vec<Noted>)
 fn nothing_noted(alloc: Global, count: usize) -> Result<Vec<Noted>, OutOfMemory>
     ensures { IfOk result (λ noted. noted.items ≡ map (λ k. Nothing) (numbers_from 0 count)) }
 {
-    let mut noted = Vec::new(alloc);
-    for _ in 0..count {
-        noted.push(Noted::Nothing)?;
-    }
-    Ok(noted)
+    Ok(vec![in alloc; Noted::Nothing; count]?)
 }
 
 /// What is noted of each variable after all links: one pass over them.
 fn noted_of_links(
     alloc: Global,
-    requests: &RequestFile,
+    request_file: &RequestFile,
     lsdb: &Lsdb,
     graph: &Graph,
     count: usize,
 ) -> Result<Vec<Noted>, OutOfMemory>
-    requires { graph.now ≡ (problem_of requests.now lsdb.now).graph }
-    ensures { IfOk result
-        (λ noted. noted.items ≡
-        map (λ k. noted_after Nothing (costs_of_variable requests.now lsdb.now k 0 lsdb.now.links))
-        (numbers_from 0 count)) }
+    requires { graph.now ≡ (problem_of request_file.now lsdb.now).graph }
+    ensures { IfOk result (λ noted. noted.items ≡ map (λ k. noted_after Nothing (costs_of_variable
+        request_file.now lsdb.now k 0 lsdb.now.links)) (numbers_from 0 count)) }
 {
     let mut noted = nothing_noted(alloc, count)?;
     for (i, link) in lsdb.links().iter().enumerate() {
         note(
             price_of_link(graph, i as u32),
-            present_cost(requests, link),
+            present_cost(request_file, link),
             &mut noted,
         );
     }
@@ -148,14 +143,14 @@ fn costs_within(
 /// `OutOfMemory`.
 pub fn present_of_variables(
     alloc: Global,
-    requests: &RequestFile,
+    request_file: &RequestFile,
     lsdb: &Lsdb,
     problem: &Problem,
 ) -> Result<Vec<Option<u16>>, OutOfMemory>
-    requires { problem.now ≡ problem_of requests.now lsdb.now }
-    ensures { IfOk result (λ costs. costs.items ≡ present_of_variables requests.now lsdb.now) }
+    requires { problem.now ≡ problem_of request_file.now lsdb.now }
+    ensures { IfOk result (λ costs. costs.items ≡ present_of_variables request_file.now lsdb.now) }
 {
     let low = problem.low.as_slice();
-    let noted = noted_of_links(alloc, requests, lsdb, &problem.graph, low.len())?;
+    let noted = noted_of_links(alloc, request_file, lsdb, &problem.graph, low.len())?;
     costs_within(alloc, &noted, low, problem.high.as_slice())
 }

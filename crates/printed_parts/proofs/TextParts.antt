@@ -1,5 +1,5 @@
--- Texts made of lines and words, and costs by their names.
-use Rattle.std.proofs.Common.{◌≡◌, ℕ, refl, sym, ◌∙◌, ap, List, [], ◌∷◌, ◌++◌, map, append_assoc}
+-- Lines behind lines, and costs by their names.
+use Rattle.std.proofs.Common.{◌≡◌, ℕ, refl, sym, ◌∙◌, ap, List, [], ◌∷◌, ◌++◌, map}
 use Rattle.std.specs.Prelude.{Some}
 use Rattle.design_problem.specs.declared.problem.VarName.{VarName}
 use Rattle.design_problem.specs.declared.answer.CostLine.{CostLine}
@@ -9,27 +9,13 @@ use Rattle.design_problem.specs.Text.{costs_lines}
 use Rattle.text_lines.specs.Lines.{with_ends}
 use Rattle.evidence_text.specs.Lines.{AreShort}
 use Rattle.text_lines.proofs.LineLaws.{with_ends-append}
-use Rattle.printed_rows.specs.PrintedCosts.{ArePrintedCosts, CostLinesOf, named_cost, named_costs}
+use Rattle.design_problem.specs.Answers.{CostLinesOf}
+use Rattle.printed_rows.specs.PrintedCosts.{ArePrintedCosts, named_cost, named_costs}
 use Rattle.printed_rows.proofs.AnswerLines.{costs_short}
 
 -- lines behind lines
 pub joined : (first later : List (List ℕ)) (t u : List ℕ) → t ≡ with_ends first → u ≡ t ++ with_ends later → u ≡ with_ends (first ++ later)
 joined first later t u one two = two ∙ ap (λ (bytes : List ℕ). bytes ++ with_ends later) one ∙ sym (with_ends-append first later)
-
--- a line with its LF
-pub one_line : (old middle new line : List ℕ) → middle ≡ old ++ line → new ≡ middle ++ 10 ∷ [] → new ≡ old ++ with_ends (line ∷ [])
-one_line old middle new line first last = last ∙ ap (λ (bytes : List ℕ). bytes ++ 10 ∷ []) first
-    ∙ append_assoc old line (10 ∷ []) ∙ ap (λ (bytes : List ℕ). old ++ bytes) (no_more (line ++ 10 ∷ []))
-  where
-    no_more : (bytes : List ℕ) → bytes ≡ bytes ++ []
-    no_more [] = refl
-    no_more (b ∷ bytes) = ap (λ (bs : List ℕ). b ∷ bs) (no_more bytes)
-
--- Words behind a line.
-
--- A word behind a space.
-pub word_behind : (old middle new word : List ℕ) → middle ≡ old ++ 32 ∷ [] → new ≡ middle ++ word → new ≡ old ++ 32 ∷ word
-word_behind old middle new word first later = later ∙ ap (λ (bytes : List ℕ). bytes ++ word) first ∙ append_assoc old (32 ∷ []) word
 
 -- The costs.
 

@@ -1,13 +1,10 @@
-//! Lines and parts that the texts of several commands share, put behind a text in memory.
+//! Parts that the texts of several commands share, put behind a text in memory.
 #![tactic(auto)]
 
-mod number_lines;
+mod heads;
 mod parts;
 
-pub use number_lines::{
-    counted_line, number_line, push_count, push_count_line, push_counts, push_word, push_words,
-};
+pub use heads::counted_head;
 pub use parts::{
-    at_greatest_bound, costs_by_name, head_lines, keeps_greatest_bound, push_line,
-    push_tree_at_greatest_bound,
+    at_greatest_bound, costs_by_name, keeps_greatest_bound, push_tree_at_greatest_bound,
 };

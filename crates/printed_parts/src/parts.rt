@@ -1,5 +1,5 @@
-//! The first lines of texts, and the parts of costs and trees.
-ghost use Rattle.std.specs.Prelude.{◌≡◌, ◌≤◌, ◌∷◌, ◌++◌, [], Some, IfOk, OnOk};
+//! The parts of costs and trees.
+ghost use Rattle.std.specs.Prelude.{◌≡◌, ◌≤◌, ◌++◌, Some, IfOk, OnOk};
 ghost use Rattle.design_problem.specs.Boxes.{IsInBox};
 ghost use Rattle.design_problem.specs.Rows.{box_of};
 ghost use Rattle.design_problem.specs.Answers.{greatest_bound};
@@ -11,38 +11,12 @@ ghost use Rattle.printed_parts.specs.SharedParts.{at_greatest_bound};
 ghost use Rattle.printed_rows.specs.PrintedCosts.{named_costs};
 
 use cost_base::OutOfMemory;
-use cost_branching::keeps_conditions;
-use design_problem::{CapTree, CostList, Costs, Problem, Tree, greatest_of};
+use design_problem::{
+    CapTree, CostList, Costs, Problem, Tree, greatest_of, keeps_problem_on_graph,
+};
 use evidence_text::{TreePart, push_capped_tree};
 use printed_rows::printed_costs;
 use std::alloc::Global;
-use text_lines::push_bytes;
-
-/// Adds a line at the end.
-///
-/// # Errors
-///
-/// `OutOfMemory`.
-pub fn push_line(text: &mut Vec<u8>, line: &[u8]) -> Result<(), OutOfMemory>
-    ensures { OnOk result (text.new.items ≡ text.old.items ++ with_ends (line.now ∷ [])) }
-{
-    push_bytes(text, line)?;
-    push_bytes(text, b"\n")
-}
-
-/// The first lines of a text: the one that tells its kind, and that of its verdict.
-///
-/// # Errors
-///
-/// `OutOfMemory`.
-pub fn head_lines(alloc: Global, kind: &[u8], verdict: &[u8]) -> Result<Vec<u8>, OutOfMemory>
-    ensures { IfOk result (λ text. text.items ≡ with_ends (kind.now ∷ verdict.now ∷ [])) }
-{
-    let mut text = Vec::new(alloc);
-    push_line(&mut text, kind)?;
-    push_line(&mut text, verdict)?;
-    Ok(text)
-}
 
 /// Costs of a problem's variables as they are printed, with the names of the free interfaces.
 ///
@@ -58,7 +32,7 @@ pub fn costs_by_name(
     ensures named { IfOk result (λ printed. printed ≡ named_costs problem.now costs.now) }
     ensures short { IfOk result (λ printed. AreShort (costs_lines (Some printed))) }
 {
-    keeps_conditions(problem);
+    keeps_problem_on_graph(problem);
     printed_costs(alloc, problem, costs.as_slice())
 }
 
@@ -80,7 +54,7 @@ fn greatest_bound(problem: &Problem) -> u16
     greatest_of(problem.high.as_slice())
 }
 
-/// The greatest bound of a problem's variables is a cost of an interface.
+/// For the prover alone: keeps that the greatest bound of a problem's variables is a cost of an interface.
 pub fn keeps_greatest_bound(problem: &Problem)
     ensures { greatest_bound problem.now ≤ 65535 }
 {
@@ -101,7 +75,8 @@ pub fn push_tree_at_greatest_bound(
     problem: &Problem,
     tree: &Tree,
 ) -> Result<(), OutOfMemory>
-    requires { AreShort (tree_lines (part_word part) (Some (at_greatest_bound problem.now tree.now))) }
+    requires { AreShort
+        (tree_lines (part_word part) (Some (at_greatest_bound problem.now tree.now))) }
     ensures { OnOk result (text.new.items ≡ text.old.items ++ with_ends
         (tree_lines (part_word part) (Some (at_greatest_bound problem.now tree.now)))) }
 {

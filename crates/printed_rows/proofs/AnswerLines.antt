@@ -132,13 +132,13 @@ rows_part floor rows fits few short =
 
 lines_short : (a : AnswerParts) → FitsVerdict a.verdict → CanPrintCosts a.costs → FitsFloor a.floor →
     length a.rows < 2 ^ 64 → All (λ row. IsTextLine (row_line row)) a.rows → CanPrintTree a.proof →
-    CanPrintTree a.unfinished → All IsTextLine (answer_lines a)
-lines_short a verdict costs floor few rows proof unfinished =
+    CanPrintTree a.undecided → All IsTextLine (answer_lines a)
+lines_short a verdict costs floor few rows proof undecided =
     let first = codes "ospfcost answer 1" ∷ spaced (codes "verdict" ∷ verdict_words a.verdict) ∷ [] in
     let second = costs_lines a.costs in
     let third = spaced (codes "floor" ∷ floor_word a.floor ∷ []) ∷ spaced (codes "rows" ∷ decimal (length a.rows) ∷ []) ∷ map row_line a.rows in
     let fourth = tree_lines (codes "proof") a.proof in
-    let fifth = tree_lines (codes "open") a.unfinished in
+    let fifth = tree_lines (codes "open") a.undecided in
     let last = codes "wide none" ∷ codes "end" ∷ [] in
     All-append IsTextLine (first ++ second ++ third ++ fourth ++ fifth) last
     (All-append IsTextLine (first ++ second ++ third ++ fourth) fifth
@@ -150,16 +150,16 @@ lines_short a verdict costs floor few rows proof unfinished =
     (costs_short a.costs costs))
     (rows_part a.floor a.rows floor few rows))
     (trees_short (codes "proof") a.proof (omega arith) proof))
-    (trees_short (codes "open") a.unfinished (omega arith) unfinished))
+    (trees_short (codes "open") a.undecided (omega arith) undecided))
     (All-cons IsTextLine (codes "wide none") (codes "end" ∷ []) (omega arith) (All-cons IsTextLine (codes "end") [] (omega arith) (All-nil IsTextLine)))
 
 -- an answer of parts that can be printed keeps what every answer keeps
 pub answer_kept : (a : AnswerParts) → FitsVerdict a.verdict → CanPrintCosts a.costs → FitsFloor a.floor →
     length a.rows < 2 ^ 64 → All (λ row. IsTextLine (row_line row)) a.rows → CanPrintTree a.proof →
-    CanPrintTree a.unfinished → FitsAnswer a
-answer_kept a verdict costs floor few rows proof unfinished = record {
+    CanPrintTree a.undecided → FitsAnswer a
+answer_kept a verdict costs floor few rows proof undecided = record {
   costs = costs_fit a.costs costs;
   proof = tree_fits a.proof proof;
-  unfinished = tree_fits a.unfinished unfinished;
-  lines = lines_short a verdict costs floor few rows proof unfinished;
+  undecided = tree_fits a.undecided undecided;
+  lines = lines_short a verdict costs floor few rows proof undecided;
 }

@@ -7,7 +7,7 @@ use Rattle.design_problem.specs.Boxes.{IsBox, capped, IsInBox}
 use Rattle.design_problem.specs.Rows.{box_of, greatest_cost}
 use Rattle.design_problem.specs.Answers.{greatest_bound}
 use Rattle.design_problem.proofs.ProblemTrees.{le_greatest}
-use Rattle.design_problem.specs.declared.form.CostBox.{CostBox}
+use Rattle.design_problem.specs.declared.boxes.CostBox.{CostBox}
 use Rattle.printed_rows.proofs.CostLaws.{greatest-le}
 use Rattle.printed_rows.proofs.TreeLines.{IsCostBounds}
 

@@ -11,9 +11,9 @@ use Rattle.design_problem.specs.declared.answer.CostLine.{CostLine}
 use Rattle.design_problem.specs.Problems.{DesignProblem, IsProblem}
 use Rattle.design_problem.specs.Boxes.{IsInBox}
 use Rattle.design_problem.specs.Rows.{IsFit, box_of, greatest_cost}
-use Rattle.design_problem.specs.Answers.{Names}
+use Rattle.design_problem.specs.Answers.{CostLinesOf}
 use Rattle.design_problem.proofs.ProblemTrees.{fold_le}
-use Rattle.printed_rows.specs.PrintedCosts.{ArePrintedCosts, CostLinesOf, IsNamedCost}
+use Rattle.printed_rows.specs.PrintedCosts.{ArePrintedCosts, IsNamedCost}
 
 -- the greatest is at most what each is at most
 pub greatest-le : (w : List ℕ) (most : ℕ) → ((k : ℕ) → k < length w → slice_index w k ≤ most) → greatest_cost w ≤ most
@@ -89,12 +89,12 @@ pub costs_printed : (p : DesignProblem) (w : List ℕ) (greatest : ℕ) (printed
 costs_printed p w greatest printed names lines problem counted positive most zipped names_is is same =
     let small = greatest-le w 65535 most in
     let within : All (λ name. name.var < length w) p.vars = subst (λ (n : ℕ). All (λ name. name.var < n) p.vars) (sym counted) problem.named in
-    let there : Names p lines w = subst (λ (ns : List VarName). CostLinesOf w ns lines) names_is zipped in
+    let there : CostLinesOf w p.vars lines = subst (λ (ns : List VarName). CostLinesOf w ns lines) names_is zipped in
     let named = lines_named w p.vars lines problem.words within (λ k k_in. (positive k 0 k_in, most k k_in)) there in
     record {
       greatest = is;
       small = omega arith;
-      names = subst (λ (ls : List CostLine). Names p ls w) (sym same) there;
+      names = subst (λ (ls : List CostLine). CostLinesOf w p.vars ls) (sym same) there;
       named = subst (λ (ls : List CostLine). All IsNamedCost ls) (sym same) named;
     }
 

@@ -2,7 +2,6 @@ pub mod AnswerLines
 pub mod CapBoxes
 pub mod CostLaws
 pub mod KeptRows
-pub mod MarkLaws
 pub mod MetForms
 pub mod NamedLaws
 pub mod NumberLaws

@@ -8,7 +8,7 @@ use Rattle.design_problem.specs.declared.tree.Member.{Member}
 use Rattle.design_problem.specs.declared.tree.Member.TheVariants.{Low as ByLow, High as ByHigh, Row as ByRow}
 use Rattle.design_problem.specs.declared.tree.Entry.{Entry}
 use Rattle.design_problem.specs.declared.tree.Entry.TheVariants.{Tighten, Split, Halve, Refute, Undone}
-use Rattle.design_problem.specs.Renumbering.{renumbered, renumbered_member, renumbered_part}
+use Rattle.design_problem.specs.Renumbering.{renumbered, renumbered_member, renumbered_multiplier}
 use Rattle.printed_rows.specs.NamedRows.{EachMember, EachNamed, NamesBelow, NamesKnown, is_row_named, member_names, names, part_names}
 
 -- what holds of each row that the entry names by the test
@@ -73,13 +73,13 @@ members_agree f g P (member ∷ basis) agree names =
     one (ByRow row) is = ap ByRow (agree row is)
 
 parts_agree : (f g : ℕ → ℕ) (P : ℕ → Type 0) (parts : List (ℕ × ℕ)) → ((k : ℕ) → P k → f k ≡ g k) →
-    All (λ part. P part.0) parts → map (renumbered_part f) parts ≡ map (renumbered_part g) parts
+    All (λ part. P part.0) parts → map (renumbered_multiplier f) parts ≡ map (renumbered_multiplier g) parts
 parts_agree f g P [] agree names = refl
 parts_agree f g P (part ∷ parts) agree names =
     let Q : ℕ × ℕ → Type 0 = λ part. P part.0 in
-    let here : renumbered_part f part ≡ renumbered_part g part = ap (λ (k : ℕ). (k, part.1)) (agree part.0 (All-head Q part parts names)) in
+    let here : renumbered_multiplier f part ≡ renumbered_multiplier g part = ap (λ (k : ℕ). (k, part.1)) (agree part.0 (All-head Q part parts names)) in
     let rest = parts_agree f g P parts agree (All-tail Q part parts names) in
-    ap (λ (p : ℕ × ℕ). p ∷ map (renumbered_part f) parts) here ∙ ap (λ (ps : List (ℕ × ℕ)). renumbered_part g part ∷ ps) rest
+    ap (λ (p : ℕ × ℕ). p ∷ map (renumbered_multiplier f) parts) here ∙ ap (λ (ps : List (ℕ × ℕ)). renumbered_multiplier g part ∷ ps) rest
 
 pub entry_agrees : (f g : ℕ → ℕ) (P : ℕ → Type 0) (entry : Entry) → ((k : ℕ) → P k → f k ≡ g k) → EachNamed P entry → renumbered f entry ≡ renumbered g entry
 entry_agrees f g P (Tighten var side value row) agree names = ap (λ (k : ℕ). Tighten var side value k) (agree row names)
@@ -113,6 +113,6 @@ entry_below f P n (Halve var value wide) below names =
     one (ByHigh v w) is = tt
     one (ByRow row) is = below row is
 entry_below f P n (Refute parts) below names =
-    All-map (λ (part : ℕ × ℕ). part.0 < n) (renumbered_part f) parts
+    All-map (λ (part : ℕ × ℕ). part.0 < n) (renumbered_multiplier f) parts
     (All-weaker (λ part. P part.0) (λ part. f part.0 < n) (λ part is. below part.0 is) parts names)
 entry_below f P n Undone below names = tt

@@ -9,7 +9,7 @@ use Rattle.std.proofs.lemmas.List.Elements.{All-map}
 use Rattle.design_problem.specs.declared.tree.Entry.{Entry}
 use Rattle.design_problem.specs.declared.tree.Entry.TheVariants.{Tighten, Split, Halve, Refute, Undone}
 use Rattle.design_problem.specs.Trees.{AreSeveralTrees, subtree_count}
-use Rattle.design_problem.specs.Renumbering.{renumbered, renumbered_part}
+use Rattle.design_problem.specs.Renumbering.{renumbered, renumbered_multiplier}
 use Rattle.printed_rows.specs.NamedRows.{NamesKnown, PartKnown}
 use Rattle.printed_rows.specs.NewNumbers.{AreNewNumbers, KeepsOrder, new_number, number_given}
 
@@ -42,7 +42,8 @@ first : (n : ℕ) → 0 + n ≡ n
 first n = omega arith
 
 -- one number more
-pub numbers_more : (named : ℕ → Bool) (numbers : List ℕ) (i : ℕ) → AreNewNumbers named i numbers → AreNewNumbers named (i + 1) (numbers ++ new_number named i ∷ [])
+pub numbers_more : (named : ℕ → Bool) (numbers : List ℕ) (i : ℕ) → AreNewNumbers named i numbers →
+    AreNewNumbers named (i + 1) (numbers ++ new_number named i ∷ [])
 numbers_more named numbers i are =
     ap (λ (ns : List ℕ). ns ++ new_number named i ∷ []) are
     ∙ sym (map-append (new_number named) (numbers_from 0 i) (i ∷ []))
@@ -78,10 +79,10 @@ numbered_more named numbers more i next after is next_is are more_is is_named af
 -- the rows of a Refute rise again
 parts_rise : (named : ℕ → Bool) (n : ℕ) (numbers : List ℕ) (parts : List (ℕ × ℕ)) → AreNewNumbers named n numbers →
     All (PartKnown named n) parts → AllPairs (λ a b. a.0 < b.0) parts
-    → AllPairs (λ a b. a.0 < b.0) (map (renumbered_part (number_given numbers)) parts)
+    → AllPairs (λ a b. a.0 < b.0) (map (renumbered_multiplier (number_given numbers)) parts)
 parts_rise named n numbers parts are names rising i j d before j_in =
     let f = number_given numbers in
-    let counted = length-map parts (renumbered_part f) in
+    let counted = length-map parts (renumbered_multiplier f) in
     let j_known : j < length parts = omega arith in
     let i_known : i < length parts = omega arith in
     let a = slice_index_or parts i d in
@@ -91,7 +92,7 @@ parts_rise named n numbers parts are names rising i j d before j_in =
     let rise = numbers_rise named a.0 b.0 (rising i j d before j_known) a_is.1 in
     let less : number_given numbers a.0 < number_given numbers b.0 =
     omega (arith, rise, number_at (new_number named) n numbers a.0 are a_is.0, number_at (new_number named) n numbers b.0 are b_is.0) in
-    rw (get_or-map (renumbered_part f) parts i d d i_known, get_or-map (renumbered_part f) parts j d d j_known) less
+    rw (get_or-map (renumbered_multiplier f) parts i d d i_known, get_or-map (renumbered_multiplier f) parts j d d j_known) less
 
 -- the new numbers keep the order of the rows of an entry
 pub order_kept : (named : ℕ → Bool) (n : ℕ) (numbers : List ℕ) (entry : Entry) → AreNewNumbers named n numbers → NamesKnown named n entry →
@@ -102,8 +103,9 @@ order_kept named n numbers (Halve var value wide) are known = tt
 order_kept named n numbers (Refute parts) are known = parts_rise named n numbers parts are known
 order_kept named n numbers Undone are known = tt
 
-pub parts_positive : (number : ℕ → ℕ) (parts : List (ℕ × ℕ)) → All (λ part. 0 < part.1) parts → All (λ part. 0 < part.1) (map (renumbered_part number) parts)
-parts_positive number parts positive = All-map (λ (part : ℕ × ℕ). 0 < part.1) (renumbered_part number) parts positive
+pub parts_positive : (number : ℕ → ℕ) (parts : List (ℕ × ℕ)) → All (λ part. 0 < part.1) parts →
+    All (λ part. 0 < part.1) (map (renumbered_multiplier number) parts)
+parts_positive number parts positive = All-map (λ (part : ℕ × ℕ). 0 < part.1) (renumbered_multiplier number) parts positive
 
 same_subtrees : (number : ℕ → ℕ) (entry : Entry) → subtree_count (renumbered number entry) ≡ subtree_count entry
 same_subtrees number (Tighten var side value row) = refl
@@ -118,4 +120,5 @@ whole_kept number zero [] whole = whole
 whole_kept number (suc n) [] whole = absurd whole
 whole_kept number zero (e ∷ entries) whole = absurd whole
 whole_kept number (suc n) (e ∷ entries) whole =
-    subst (λ k. AreSeveralTrees (k + n) (map (renumbered number) entries)) (sym (same_subtrees number e)) (whole_kept number (subtree_count e + n) entries whole)
+    subst (λ k. AreSeveralTrees (k + n) (map (renumbered number) entries)) (sym (same_subtrees number e))
+    (whole_kept number (subtree_count e + n) entries whole)

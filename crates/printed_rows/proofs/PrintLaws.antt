@@ -4,17 +4,19 @@ use Rattle.std.specs.Prelude.{◌<◌, All, Option, None, Some, slice_index_or}
 use Rattle.std.proofs.lemmas.List.Elements.{All-head, All-tail}
 use Rattle.std.proofs.lemmas.List.Folds.{list_any_at}
 use Rattle.cost_base.specs.Lists.{numbers_from}
+use Rattle.cost_base.specs.Marks.{AreMarked, is_marked}
+use Rattle.cost_base.proofs.MarkLaws.{marks_from_none}
 use Rattle.design_problem.specs.declared.answer.CapTree.{CapTree}
 use Rattle.design_problem.specs.declared.tree.Entry.{Entry}
 use Rattle.design_problem.specs.Renumbering.{renumbered}
 use Rattle.printed_rows.specs.NamedRows.{IsKnown, NamesBelow, NamesKnown, TreeNamesBelow, TreeNamesKnown, entries_in, is_row_named, is_row_named_in}
-use Rattle.printed_rows.specs.NewNumbers.{AreMarked, AreNewNumbers, HasNumbers, is_marked, named_in, new_number, number_given, with_new_numbers}
+use Rattle.printed_rows.specs.NewNumbers.{AreNewNumbers, HasNumbers, named_in, new_number, number_given, with_new_numbers}
 use Rattle.printed_rows.proofs.NamedLaws.{entries_agree, names_known}
 use Rattle.printed_rows.proofs.NumberLaws.{number_at, numbers_counted}
 
 -- the marks of a test, where nothing was marked before
 marks_are : (test : ℕ → Bool) (none marks : List Bool) → ((row : ℕ) → is_marked none row ≡ false) → AreMarked test none marks → is_marked marks ≡ test
-marks_are test none marks empty are = λ i row. (are.marked row ∙ ap (λ (x : Bool). x || test row) (empty row)) i
+marks_are test none marks empty are = λ i row. marks_from_none test none marks row empty are i
 
 -- and of one test after the other
 both_marks_are : (first second : ℕ → Bool) (none middle marks : List Bool) → ((row : ℕ) → is_marked none row ≡ false) →
@@ -64,14 +66,14 @@ tree_numbered tree n none made marks all numbers empty marked =
     are_numbered (is_row_named tree) n made marks all numbers (marks_are (is_row_named tree) none made empty marked)
 
 -- and where two were, one after the other
-pub both_numbered : (proof unfinished : Option CapTree) (n : ℕ) (none middle made marks : List Bool)
+pub both_numbered : (proof undecided : Option CapTree) (n : ℕ) (none middle made marks : List Bool)
     (all numbers : List ℕ) → ((row : ℕ) → is_marked none row ≡ false) →
-    AreMarked (is_row_named (entries_in proof)) none middle → AreMarked (is_row_named (entries_in unfinished)) middle made →
+    AreMarked (is_row_named (entries_in proof)) none middle → AreMarked (is_row_named (entries_in undecided)) middle made →
     length made ≡ n → marks ≡ made →
-    AreNewNumbers (is_marked marks) (length marks) all → numbers ≡ all → AreNumbered (named_in proof unfinished) n marks numbers
-both_numbered proof unfinished n none middle made marks all numbers empty first second =
-    are_numbered (named_in proof unfinished) n made marks all numbers
-    (both_marks_are (is_row_named (entries_in proof)) (is_row_named (entries_in unfinished)) none middle made empty
+    AreNewNumbers (is_marked marks) (length marks) all → numbers ≡ all → AreNumbered (named_in proof undecided) n marks numbers
+both_numbered proof undecided n none middle made marks all numbers empty first second =
+    are_numbered (named_in proof undecided) n made marks all numbers
+    (both_marks_are (is_row_named (entries_in proof)) (is_row_named (entries_in undecided)) none middle made empty
     first second)
 
 -- what a tree names is known to the numbers
@@ -89,11 +91,11 @@ if_any_known test n marks numbers None are passes below = tt
 if_any_known test n marks numbers (Some t) are passes below = tree_known test n marks numbers t.tree are passes below
 
 -- what one of two trees names is named
-pub first_named : (proof unfinished : Option CapTree) (row : ℕ) → is_row_named (entries_in proof) row ≡ true → named_in proof unfinished row ≡ true
-first_named proof unfinished row is = ap (λ (x : Bool). x || is_row_named (entries_in unfinished) row) is
+pub first_named : (proof undecided : Option CapTree) (row : ℕ) → is_row_named (entries_in proof) row ≡ true → named_in proof undecided row ≡ true
+first_named proof undecided row is = ap (λ (x : Bool). x || is_row_named (entries_in undecided) row) is
 
-pub second_named : (proof unfinished : Option CapTree) (row : ℕ) → is_row_named (entries_in unfinished) row ≡ true → named_in proof unfinished row ≡ true
-second_named proof unfinished row is = ap (λ (x : Bool). is_row_named (entries_in proof) row || x) is ∙ or_true (is_row_named (entries_in proof) row)
+pub second_named : (proof undecided : Option CapTree) (row : ℕ) → is_row_named (entries_in undecided) row ≡ true → named_in proof undecided row ≡ true
+second_named proof undecided row is = ap (λ (x : Bool). is_row_named (entries_in proof) row || x) is ∙ or_true (is_row_named (entries_in proof) row)
   where
     or_true : (b : Bool) → (b || true) ≡ true
     or_true true = refl

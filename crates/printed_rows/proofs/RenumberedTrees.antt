@@ -6,7 +6,7 @@ use Rattle.std.proofs.lemmas.List.Elements.{All-nil, All-cons, All-head, All-tai
 use Rattle.cost_base.proofs.ListLemmas.{none_mapped}
 use Rattle.area_graph.specs.declared.Point.{Point}
 use Rattle.design_problem.specs.declared.form.Form.{Form}
-use Rattle.design_problem.specs.declared.form.CostBox.{CostBox}
+use Rattle.design_problem.specs.declared.boxes.CostBox.{CostBox}
 use Rattle.design_problem.specs.declared.tree.Member.{Member}
 use Rattle.design_problem.specs.declared.tree.Member.TheVariants.{Low as ByLow, High as ByHigh, Row as ByRow}
 use Rattle.design_problem.specs.declared.tree.Entry.{Entry}
@@ -17,9 +17,9 @@ use Rattle.design_problem.specs.Boxes.{greatest}
 use Rattle.design_problem.specs.Trees.{Sound, SoundAt, IsClosed, entry_count, is_undone, removed, subboxes}
 use Rattle.design_problem.specs.Earnest.{OpenPlace, Earnest, EarnestAt, IsEarnestTree, subplaces}
 use Rattle.design_problem.specs.OpenPlaces.{UndoneLast, undones}
-use Rattle.design_problem.specs.Renumbering.{renumbered, renumbered_member, renumbered_part}
+use Rattle.design_problem.specs.Renumbering.{renumbered, renumbered_member, renumbered_multiplier}
 use Rattle.design_problem.proofs.Renumbering.{renumbered_tree}
-use Rattle.form_search.specs.Finds.{IsShort}
+use Rattle.design_problem.specs.SearchTrees.{IsShort}
 use Rattle.printed_rows.specs.NamedRows.{MemberBelow, NamesBelow}
 use Rattle.printed_rows.specs.NewNumbers.{KeepsRowsByNumber}
 use Rattle.printed_rows.proofs.KeptRows.{keeps_forms}
@@ -122,8 +122,11 @@ short_entry number n (Split var value) short = short
 short_entry number n (Halve var value wide) short =
     ((short.0.0, short.0.1, λ none. short.0.2 (none_mapped (renumbered_member number) wide.basis none)), tt)
 short_entry number n (Refute parts) short = (
-  (λ none. short.0.0 (none_mapped (renumbered_part number) parts none), All-map (λ (part : ℕ × ℕ). part.1 < 10 ^ 31) (renumbered_part number) parts short.0.1),
-  omega (arith, length-map parts (renumbered_part number), short.1),
+  (
+    λ none. short.0.0 (none_mapped (renumbered_multiplier number) parts none),
+    All-map (λ (part : ℕ × ℕ). part.1 < 10 ^ 31) (renumbered_multiplier number) parts short.0.1,
+  ),
+  omega (arith, length-map parts (renumbered_multiplier number), short.1),
 )
 short_entry number n Undone short = short
 

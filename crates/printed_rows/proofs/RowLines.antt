@@ -4,12 +4,12 @@ use Rattle.std.specs.Prelude.{codes, All, count_by, slice_get, slice_index_or, O
 use Rattle.std.proofs.lemmas.List.Elements.{All-head, All-tail}
 use Rattle.cost_base.specs.Decimal.{decimal}
 use Rattle.cost_base.specs.Lists.{Has, NoneTwice}
+use Rattle.cost_base.proofs.ListLemmas.{has_lacks}
 use Rattle.area_graph.specs.declared.Vertex.{Vertex}
 use Rattle.area_graph.specs.declared.Vertex.TheVariants.{Router, Subnet}
 use Rattle.area_graph.specs.Area.{Area, edge_at, no_edge, vertex_at, is_vertex_of_router, FitsGraph, FitsEdge, FitsTarget}
 use Rattle.area_graph.specs.Paths.{Ends, IsPathOf, Joins, visited}
 use Rattle.area_graph.proofs.Bounds.{count_less}
-use Rattle.area_graph.proofs.Deviations.{lacks_not}
 use Rattle.design_problem.specs.declared.form.Row.{Row}
 use Rattle.design_problem.specs.declared.problem.Request.{Request}
 use Rattle.design_problem.specs.Problems.{DesignProblem, IsProblem, request_ends, no_request}
@@ -71,8 +71,8 @@ edges_le g vs s (e ∷ es) t graph same joins once marks =
     (edges_le g vs (edge_at g e).to es t graph same joins.2 once.1 (λ v has. marks v (inr has)))
     (edges_le g (set vs s (Subnet 0)) (edge_at g e).to es t graph (length-set vs s (Subnet 0) ∙ same) joins.2 once.1
     (λ v has. get_or-set_other vs s v (Subnet 0) (Router 0)
-    (λ back. lacks_not (visited g (edge_at g e).to es) s once.0
-    (subst (λ (x : ℕ). Has (visited g (edge_at g e).to es) x) back has)) ∙ marks v (inr has))) in
+    (λ back. has_lacks (visited g (edge_at g e).to es) s
+    (subst (λ (x : ℕ). Has (visited g (edge_at g e).to es) x) back has) once.0) ∙ marks v (inr has))) in
     omega arith
 
 path_edges-le : (g : Area) (ends : Ends) (es : List ℕ) → FitsGraph g → IsPathOf g ends es → length es ≤ 2001
@@ -94,8 +94,8 @@ words_short request es few small count =
     let words = spaced-le (codes "row" ∷ decimal request ∷ map decimal es) in
     omega (arith, thing_digits request few, edges_room es small)
 
-route : (p : DesignProblem) (row : Row) → IsRow p row → IsRouteOf p.graph (slice_get p.paths row.request) row.rival
-route p row is_row = go (slice_get p.paths row.request) is_row
+route : (p : DesignProblem) (row : Row) → IsRow p row → IsRouteOf p.graph (slice_get p.requests row.request) row.rival
+route p row is_row = go (slice_get p.requests row.request) is_row
   where
     go : (r : Option Request) → IsRivalOf p.graph r row.rival → IsRouteOf p.graph r row.rival
     go None rival = absurd rival
@@ -103,10 +103,10 @@ route p row is_row = go (slice_get p.paths row.request) is_row
 
 row_short : (p : DesignProblem) (row : Row) → IsProblem p → FitsGraph p.graph → IsRow p row → IsTextLine (row_line row)
 row_short p row kept graph is_row =
-    let found = request_of_route p.graph p.paths row.request no_request row.rival (route p row is_row) in
-    let ends = request_ends (get_or p.paths row.request no_request) in
+    let found = request_of_route p.graph p.requests row.request no_request row.rival (route p row is_row) in
+    let ends = request_ends (get_or p.requests row.request no_request) in
     let known = path-known p.graph ends row.rival found.path in
-    words_short row.request row.rival (omega (arith, found.within, kept.path_count)) (λ k d k_in. let below =
+    words_short row.request row.rival (omega (arith, found.within, kept.request_count)) (λ k d k_in. let below =
     known k d k_in in omega (arith, graph.edge_count))
     (path_edges-le p.graph ends row.rival graph found.path)
 

@@ -7,12 +7,13 @@ use Rattle.std.proofs.lemmas.List.{map-append}
 use Rattle.std.proofs.lemmas.List.Elements.{All-nil, All-append}
 use Rattle.std.proofs.lemmas.List.Folds.{list_any-append}
 use Rattle.std.proofs.lemmas.List.Kept.{AllPairs-cons}
+use Rattle.cost_base.proofs.ListLemmas.{pairs_head, pairs_tail}
 use Rattle.design_problem.specs.declared.answer.CapTree.{CapTree}
 use Rattle.design_problem.specs.declared.tree.Member.{Member}
 use Rattle.design_problem.specs.declared.tree.Member.TheVariants.{Low as ByLow, High as ByHigh, Row as ByRow}
 use Rattle.design_problem.specs.declared.tree.Entry.{Entry}
 use Rattle.design_problem.specs.declared.tree.Entry.TheVariants.{Tighten, Split, Halve, Refute, Undone}
-use Rattle.design_problem.specs.Renumbering.{renumbered, renumbered_member, renumbered_part}
+use Rattle.design_problem.specs.Renumbering.{renumbered, renumbered_member, renumbered_multiplier}
 use Rattle.printed_rows.specs.NamedRows.{NamesBelow, TreeNamesBelow, entries_in, is_row_named, member_names, names, part_names}
 use Rattle.printed_rows.specs.NewNumbers.{ArePrinted, HasNumbers, IsTreePrinted, kept_from, kept_rows, named_in, new_number}
 use Rattle.printed_rows.specs.Sheets.{IsSheet}
@@ -23,22 +24,16 @@ use Rattle.printed_rows.proofs.TreeCopies.{IsCopy, all_printed, copy_names, prin
 
 -- None comes twice.
 
-pub pairs_left : {R : Type 0} (P : R → R → Type 0) (row : R) (rows : List R) → AllPairs P (row ∷ rows) → AllPairs P rows
-pairs_left P row rows pairs i j d before j_in = pairs (suc i) (suc j) d (omega arith) (omega arith)
-
-pub pairs_first : {R : Type 0} (P : R → R → Type 0) (row : R) (rows : List R) → AllPairs P (row ∷ rows) → All (P row) rows
-pairs_first P row rows pairs k d k_in = pairs 0 (suc k) d (omega arith) (omega arith)
-
 -- what holds of each two rows holds of each two that are kept
 kept_pairs : {R : Type 0} (P : R → R → Type 0) (named : ℕ → Bool) (first : ℕ) (rows : List R) → AllPairs P rows → AllPairs P (kept_from named first rows)
 kept_pairs P named first [] pairs = pairs
 kept_pairs {R} P named first (row ∷ rows) pairs =
-    by_test (named first) (kept_pairs P named (suc first) rows (pairs_left P row rows pairs))
+    by_test (named first) (kept_pairs P named (suc first) rows (pairs_tail P row rows pairs))
   where
     by_test : (is : Bool) → AllPairs P (kept_from named (suc first) rows) →
         AllPairs P (if is then row ∷ kept_from named (suc first) rows else kept_from named (suc first) rows)
     by_test true rest =
-        AllPairs-cons P row (kept_from named (suc first) rows) (kept_all (P row) named (suc first) rows (pairs_first P row rows pairs)) rest
+        AllPairs-cons P row (kept_from named (suc first) rows) (kept_all (P row) named (suc first) rows (pairs_head P row rows pairs)) rest
     by_test false rest = rest
 
 -- Each is named.
@@ -92,7 +87,7 @@ entry_anew f row (Split var value) is = is
 entry_anew f row (Halve var value wide) is =
     any_anew (member_names row) (member_names (f row)) (renumbered_member f) wide.basis (member_anew f row) is
 entry_anew f row (Refute parts) is =
-    any_anew (part_names row) (part_names (f row)) (renumbered_part f) parts (λ part. same_anew f part.0 row) is
+    any_anew (part_names row) (part_names (f row)) (renumbered_multiplier f) parts (λ part. same_anew f part.0 row) is
 entry_anew f row Undone is = is
 
 named_anew : (f : ℕ → ℕ) (row : ℕ) (entries : List Entry) → is_row_named entries row ≡ true → is_row_named (map (renumbered f) entries) (f row) ≡ true
@@ -128,9 +123,9 @@ tree_sheet IsTrueRow AreApart old rows tree new_tree true_rows once below printe
     (λ row is. is) true_rows once
 
 -- of what one of two trees names
-named_append : (proof unfinished : Option CapTree) (row : ℕ) →
-    is_row_named (entries_in proof ++ entries_in unfinished) row ≡ named_in proof unfinished row
-named_append proof unfinished row = list_any-append (names row) (entries_in proof) (entries_in unfinished)
+named_append : (proof undecided : Option CapTree) (row : ℕ) →
+    is_row_named (entries_in proof ++ entries_in undecided) row ≡ named_in proof undecided row
+named_append proof undecided row = list_any-append (names row) (entries_in proof) (entries_in undecided)
 
 if_any_below : (n : ℕ) (tree : Option CapTree) → TreeNamesBelow n tree → All (NamesBelow n) (entries_in tree)
 if_any_below n None below = All-nil (NamesBelow n)
@@ -142,35 +137,35 @@ if_any_anew f None (Some u) has = absurd has
 if_any_anew f (Some t) None has = absurd has
 if_any_anew f (Some t) (Some u) has = has.1
 
-both_copy : {R : Type 0} (old rows : List R) (proof unfinished new_proof new_unfinished : Option CapTree) →
-    TreeNamesBelow (length old) proof → TreeNamesBelow (length old) unfinished →
-    ArePrinted old proof unfinished rows new_proof new_unfinished →
-    IsCopy (named_in proof unfinished) old rows (entries_in proof ++ entries_in unfinished)
-    (entries_in new_proof ++ entries_in new_unfinished)
-both_copy old rows proof unfinished new_proof new_unfinished proof_below unfinished_below are =
-    let f = new_number (named_in proof unfinished) in
-    let entries = entries_in proof ++ entries_in unfinished in
+both_copy : {R : Type 0} (old rows : List R) (proof undecided new_proof new_undecided : Option CapTree) →
+    TreeNamesBelow (length old) proof → TreeNamesBelow (length old) undecided →
+    ArePrinted old proof undecided rows new_proof new_undecided →
+    IsCopy (named_in proof undecided) old rows (entries_in proof ++ entries_in undecided)
+    (entries_in new_proof ++ entries_in new_undecided)
+both_copy old rows proof undecided new_proof new_undecided proof_below undecided_below are =
+    let f = new_number (named_in proof undecided) in
+    let entries = entries_in proof ++ entries_in undecided in
     record {
       kept = are.kept;
-      copied = ap (λ (es : List Entry). es ++ entries_in new_unfinished) (if_any_anew f proof new_proof are.proof_is)
-          ∙ ap (λ (es : List Entry). map (renumbered f) (entries_in proof) ++ es) (if_any_anew f unfinished new_unfinished are.unfinished_is)
-          ∙ sym (map-append (renumbered f) (entries_in proof) (entries_in unfinished));
-      known = names_known (named_in proof unfinished) (length old) entries
-          (λ row is. sym (named_append proof unfinished row) ∙ is)
-          (All-append (NamesBelow (length old)) (entries_in proof) (entries_in unfinished)
-          (if_any_below (length old) proof proof_below) (if_any_below (length old) unfinished unfinished_below));
+      copied = ap (λ (es : List Entry). es ++ entries_in new_undecided) (if_any_anew f proof new_proof are.proof_is)
+          ∙ ap (λ (es : List Entry). map (renumbered f) (entries_in proof) ++ es) (if_any_anew f undecided new_undecided are.undecided_is)
+          ∙ sym (map-append (renumbered f) (entries_in proof) (entries_in undecided));
+      known = names_known (named_in proof undecided) (length old) entries
+          (λ row is. sym (named_append proof undecided row) ∙ is)
+          (All-append (NamesBelow (length old)) (entries_in proof) (entries_in undecided)
+          (if_any_below (length old) proof proof_below) (if_any_below (length old) undecided undecided_below));
     }
 
 pub trees_sheet : {R : Type 0} (IsTrueRow : R → Type 0) (AreApart : R → R → Type 0) (old rows : List R)
-    (proof unfinished new_proof new_unfinished : Option CapTree) → All IsTrueRow old → AllPairs AreApart old →
-    TreeNamesBelow (length old) proof → TreeNamesBelow (length old) unfinished →
-    ArePrinted old proof unfinished rows new_proof new_unfinished →
-    IsSheet IsTrueRow AreApart 0 rows (entries_in new_proof ++ entries_in new_unfinished)
-trees_sheet IsTrueRow AreApart old rows proof unfinished new_proof new_unfinished true_rows once proof_below unfinished_below are =
-    copy_sheet IsTrueRow AreApart (named_in proof unfinished) old rows (entries_in proof ++ entries_in unfinished)
-    (entries_in new_proof ++ entries_in new_unfinished)
-    (both_copy old rows proof unfinished new_proof new_unfinished proof_below unfinished_below are)
-    (λ row is. named_append proof unfinished row ∙ is) true_rows once
+    (proof undecided new_proof new_undecided : Option CapTree) → All IsTrueRow old → AllPairs AreApart old →
+    TreeNamesBelow (length old) proof → TreeNamesBelow (length old) undecided →
+    ArePrinted old proof undecided rows new_proof new_undecided →
+    IsSheet IsTrueRow AreApart 0 rows (entries_in new_proof ++ entries_in new_undecided)
+trees_sheet IsTrueRow AreApart old rows proof undecided new_proof new_undecided true_rows once proof_below undecided_below are =
+    copy_sheet IsTrueRow AreApart (named_in proof undecided) old rows (entries_in proof ++ entries_in undecided)
+    (entries_in new_proof ++ entries_in new_undecided)
+    (both_copy old rows proof undecided new_proof new_undecided proof_below undecided_below are)
+    (λ row is. named_append proof undecided row ∙ is) true_rows once
 
 -- a sheet's entries name none but its rows, where no form stands behind theirs
 pub sheet_names : {R : Type 0} (IsTrueRow : R → Type 0) (AreApart : R → R → Type 0) (rows : List R) (entries : List Entry) →

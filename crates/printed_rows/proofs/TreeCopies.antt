@@ -5,7 +5,7 @@ use Rattle.std.proofs.lemmas.List.{length-map}
 use Rattle.std.proofs.lemmas.List.Elements.{All-map, All-weaker}
 use Rattle.area_graph.specs.declared.Point.{Point}
 use Rattle.design_problem.specs.declared.form.Form.{Form}
-use Rattle.design_problem.specs.declared.form.CostBox.{CostBox}
+use Rattle.design_problem.specs.declared.boxes.CostBox.{CostBox}
 use Rattle.design_problem.specs.declared.tree.Entry.{Entry}
 use Rattle.design_problem.specs.declared.tree.Entry.TheVariants.{Tighten, Split, Halve, Refute, Undone}
 use Rattle.design_problem.specs.declared.answer.CapTree.{CapTree}
@@ -15,7 +15,7 @@ use Rattle.design_problem.specs.OpenPlaces.{UndoneLast}
 use Rattle.design_problem.specs.Renumbering.{renumbered}
 use Rattle.design_problem.proofs.OpenPlaces.{earnest_tree_sound}
 use Rattle.design_problem.proofs.TreeShapes.{sound_whole}
-use Rattle.form_search.specs.Finds.{IsSearchTree, IsShort}
+use Rattle.design_problem.specs.SearchTrees.{IsSearchTree, IsShort}
 use Rattle.printed_rows.specs.NamedRows.{IsKnown, NamesBelow, NamesKnown, is_row_named}
 use Rattle.printed_rows.specs.NewNumbers.{AreKept, ArePrinted, IsTreePrinted, kept_rows, named_in, new_number, with_new_numbers}
 use Rattle.printed_rows.specs.PrintedTrees.{IsPrintedOver, IsUndecidedOver}
@@ -52,21 +52,21 @@ printed_copy old rows tree new_tree printed below = record {
 }
 
 -- and of two
-pub proof_copy : {R : Type 0} (old rows : List R) (t u : CapTree) (unfinished new_unfinished : Option CapTree) →
-    ArePrinted old (Some t) unfinished rows (Some u) new_unfinished → All (NamesBelow (length old)) t.tree →
-    IsCopy (named_in (Some t) unfinished) old rows t.tree u.tree
-proof_copy old rows t u unfinished new_unfinished printed below = record {
+pub proof_copy : {R : Type 0} (old rows : List R) (t u : CapTree) (undecided new_undecided : Option CapTree) →
+    ArePrinted old (Some t) undecided rows (Some u) new_undecided → All (NamesBelow (length old)) t.tree →
+    IsCopy (named_in (Some t) undecided) old rows t.tree u.tree
+proof_copy old rows t u undecided new_undecided printed below = record {
   kept = printed.kept;
   copied = printed.proof_is.1;
-  known = names_known (named_in (Some t) unfinished) (length old) t.tree (first_named (Some t) unfinished) below;
+  known = names_known (named_in (Some t) undecided) (length old) t.tree (first_named (Some t) undecided) below;
 }
 
-pub unfinished_copy : {R : Type 0} (old rows : List R) (t u : CapTree) (proof new_proof : Option CapTree) →
+pub undecided_copy : {R : Type 0} (old rows : List R) (t u : CapTree) (proof new_proof : Option CapTree) →
     ArePrinted old proof (Some t) rows new_proof (Some u) → All (NamesBelow (length old)) t.tree →
     IsCopy (named_in proof (Some t)) old rows t.tree u.tree
-unfinished_copy old rows t u proof new_proof printed below = record {
+undecided_copy old rows t u proof new_proof printed below = record {
   kept = printed.kept;
-  copied = printed.unfinished_is.1;
+  copied = printed.undecided_is.1;
   known = names_known (named_in proof (Some t)) (length old) t.tree (second_named proof (Some t)) below;
 }
 

@@ -12,7 +12,7 @@ use Rattle.text_lines.proofs.Digits.{length-decimal-le}
 use Rattle.text_lines.proofs.WordLists.{room}
 use Rattle.area_graph.specs.declared.Point.{Point}
 use Rattle.design_problem.specs.declared.form.Form.{Form}
-use Rattle.design_problem.specs.declared.form.CostBox.{CostBox}
+use Rattle.design_problem.specs.declared.boxes.CostBox.{CostBox}
 use Rattle.design_problem.specs.declared.tree.Side.{Side}
 use Rattle.design_problem.specs.declared.tree.Side.TheVariants.{Low as LowSide, High as HighSide}
 use Rattle.design_problem.specs.declared.tree.Member.{Member}
@@ -25,10 +25,10 @@ use Rattle.design_problem.specs.Basis.{IsFormOf}
 use Rattle.design_problem.specs.Boxes.{IsBox}
 use Rattle.design_problem.specs.Trees.{SoundAt, subboxes}
 use Rattle.design_problem.specs.Earnest.{OpenPlace, Earnest, EarnestAt, IsEarnestTree, subplaces}
-use Rattle.design_problem.specs.Text.{FitsEntry, IsPrintedRatio, entry_line, integer, member_words, members_words, part_words, ratio_word, side_word, spaced, step_word}
+use Rattle.design_problem.specs.Text.{FitsEntry, IsPrintedRatio, entry_line, integer, member_words, members_words, multiplier_words, ratio_word, side_word, spaced, step_word}
 use Rattle.design_problem.proofs.BoxParts.{IsBoxIn, part_whole, subboxes_in}
 use Rattle.design_problem.proofs.OpenPlaces.{boxes_of, same_boxes}
-use Rattle.form_search.specs.Finds.{IsShort}
+use Rattle.design_problem.specs.SearchTrees.{IsShort}
 use Rattle.printed_rows.specs.FittingTexts.{IsTextLine}
 use Rattle.printed_rows.specs.NamedRows.{MemberBelow, NamesBelow}
 
@@ -89,7 +89,7 @@ members_room (member ∷ members) fits =
 abbrev FitsPart : ℕ × ℕ → Type 0
 FitsPart part = (part.0 < 2 ^ 64) × (part.1 < 10 ^ 31)
 
-parts_room : (parts : List (ℕ × ℕ)) → All FitsPart parts → room (part_words parts) ≤ 53 * length parts
+parts_room : (parts : List (ℕ × ℕ)) → All FitsPart parts → room (multiplier_words parts) ≤ 53 * length parts
 parts_room [] fits = omega arith
 parts_room (part ∷ parts) fits =
     let here = All-head FitsPart part parts fits in
@@ -138,7 +138,7 @@ halve_line var value wide few low left right members count =
 
 refute_line : (parts : List (ℕ × ℕ)) → All FitsPart parts → length parts ≤ 1001 → IsTextLine (entry_line (Refute parts))
 refute_line parts fits count =
-    let words = spaced-le (codes "refute" ∷ part_words parts) in
+    let words = spaced-le (codes "refute" ∷ multiplier_words parts) in
     omega (arith, parts_room parts fits)
 
 -- bounds of the box that a tree stands over

@@ -1,20 +1,11 @@
 -- The rows that are printed, and trees that name them by their new numbers.
-use Rattle.std.specs.Prelude.{◌≡◌, ℕ, zero, suc, ◌+◌, ◌^◌, ◌<◌, ◌||◌, List, [], ◌∷◌, Bool, false, if◌then◌else◌, map, length, slice_get, slice_index, slice_index_or, All, AllPairs, Contains, Option, None, Some}
+use Rattle.std.specs.Prelude.{◌≡◌, ℕ, zero, suc, ◌+◌, ◌^◌, ◌<◌, ◌||◌, List, [], ◌∷◌, Bool, if◌then◌else◌, map, length, slice_get, slice_index, All, AllPairs, Contains, Option, None, Some}
 use Rattle.cost_base.specs.Lists.{numbers_from}
 use Rattle.design_problem.specs.declared.answer.CapTree.{CapTree}
 use Rattle.design_problem.specs.declared.tree.Entry.{Entry}
 use Rattle.design_problem.specs.declared.tree.Entry.TheVariants.{Tighten, Split, Halve, Refute, Undone}
-use Rattle.design_problem.specs.Renumbering.{renumbered, renumbered_part}
+use Rattle.design_problem.specs.Renumbering.{renumbered, renumbered_multiplier}
 use Rattle.printed_rows.specs.NamedRows.{entries_in, is_row_named, is_row_named_in}
-
--- whether the row of this number is marked; none is past the end of the marks
-abbrev pub is_marked : List Bool → ℕ → Bool
-is_marked marks row = slice_index_or marks row false
-
--- marks of rows to which those of the rows that pass a test were added
-pub record AreMarked (test : ℕ → Bool) (old new : List Bool) : Type 0 where
-  pub counted : length new ≡ length old
-  pub marked : (row : ℕ) → is_marked new row ≡ (is_marked old row || test row)
 
 -- the rows that pass a test, in their order, where the first row has this number
 abbrev pub kept_from : {R : Type 0} → (ℕ → Bool) → ℕ → List R → List R
@@ -40,7 +31,7 @@ number_given numbers row = slice_index numbers row
 
 -- parts whose rows rise do so by the new numbers of these rows
 abbrev pub PartsKeepOrder : (ℕ → ℕ) → List (ℕ × ℕ) → Type 0
-PartsKeepOrder number parts = AllPairs (λ a b. a.0 < b.0) parts → AllPairs (λ a b. a.0 < b.0) (map (renumbered_part number) parts)
+PartsKeepOrder number parts = AllPairs (λ a b. a.0 < b.0) parts → AllPairs (λ a b. a.0 < b.0) (map (renumbered_multiplier number) parts)
 
 -- the new numbers keep the order of a Refute's rows
 abbrev pub KeepsOrder : (ℕ → ℕ) → Entry → Type 0
@@ -78,13 +69,13 @@ pub record AreAllPrinted {R : Type 0} (old : List R) (trees : List (List Entry))
 
 -- whether one of the two trees names the row
 abbrev pub named_in : Option CapTree → Option CapTree → ℕ → Bool
-named_in proof unfinished row = is_row_named (entries_in proof) row || is_row_named (entries_in unfinished) row
+named_in proof undecided row = is_row_named (entries_in proof) row || is_row_named (entries_in undecided) row
 
 -- the rows that one of the trees names, in their order, and the trees at the same caps with their new numbers
-pub record ArePrinted {R : Type 0} (old : List R) (proof unfinished : Option CapTree) (rows : List R) (new_proof new_unfinished : Option CapTree) : Type 0 where
-  pub kept : AreKept (named_in proof unfinished) old rows
-  pub proof_is : HasNumbers (new_number (named_in proof unfinished)) proof new_proof
-  pub unfinished_is : HasNumbers (new_number (named_in proof unfinished)) unfinished new_unfinished
+pub record ArePrinted {R : Type 0} (old : List R) (proof undecided : Option CapTree) (rows : List R) (new_proof new_undecided : Option CapTree) : Type 0 where
+  pub kept : AreKept (named_in proof undecided) old rows
+  pub proof_is : HasNumbers (new_number (named_in proof undecided)) proof new_proof
+  pub undecided_is : HasNumbers (new_number (named_in proof undecided)) undecided new_undecided
 
 -- each number of an old row is given a number of a new one, which is the same row; and each new row is an old one
 pub record KeepsRowsByNumber {R : Type 0} (number : ℕ → ℕ) (old new : List R) : Type 0 where

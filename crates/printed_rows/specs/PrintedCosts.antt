@@ -1,18 +1,12 @@
 -- Costs as they are printed.
 use Rattle.std.specs.Prelude.{◌≡◌, ℕ, ◌<◌, ◌≤◌, List, map, slice_index, All}
-use Rattle.std.specs.List.{AllZip}
 use Rattle.cost_base.specs.Words.{IsWord}
 use Rattle.design_problem.specs.declared.problem.VarName.{VarName}
 use Rattle.design_problem.specs.declared.answer.CostLine.{CostLine}
 use Rattle.design_problem.specs.declared.answer.Costs.{Costs}
 use Rattle.design_problem.specs.Problems.{DesignProblem}
 use Rattle.design_problem.specs.Rows.{greatest_cost}
-use Rattle.design_problem.specs.Answers.{Names}
-
--- a line for each name, with the cost of its variable
-abbrev pub CostLinesOf : List ℕ → List VarName → List CostLine → Type 0
-CostLinesOf costs names lines =
-    AllZip (λ name line. (line.router ≡ name.router) × (line.interface ≡ name.interface) × (line.cost ≡ slice_index costs name.var)) names lines
+use Rattle.design_problem.specs.Answers.{CostLinesOf}
 
 -- a line of costs has names of at most 4,096 bytes, and a cost of an interface
 abbrev pub IsNamedCost : CostLine → Type 0
@@ -22,7 +16,7 @@ IsNamedCost line = IsWord line.router × IsWord line.interface × (0 < line.cost
 pub record ArePrintedCosts (p : DesignProblem) (w : List ℕ) (costs : Costs) : Type 0 where
   pub greatest : costs.greatest ≡ greatest_cost w
   pub small : costs.greatest ≤ 65535
-  pub names : Names p costs.lines w
+  pub names : CostLinesOf w p.vars costs.lines
   pub named : All IsNamedCost costs.lines
 
 -- a free interface with the cost of its variable

@@ -2,7 +2,7 @@
 use Rattle.std.specs.Prelude.{◌≡◌, ℕ, ◌≤◌, List, Contains}
 use Rattle.area_graph.specs.declared.Point.{Point}
 use Rattle.design_problem.specs.declared.form.Form.{Form}
-use Rattle.design_problem.specs.declared.form.CostBox.{CostBox}
+use Rattle.design_problem.specs.declared.boxes.CostBox.{CostBox}
 use Rattle.design_problem.specs.declared.form.Row.{Row}
 use Rattle.design_problem.specs.declared.tree.Entry.{Entry}
 use Rattle.design_problem.specs.declared.tree.Entry.TheVariants.{Undone}
@@ -28,8 +28,8 @@ pub record IsUndecidedOver (accepts : Point → Type 0) (IsTrueForm : Form → T
   pub undone : Contains tree Undone
   pub used_up : entry_count tree ≡ nodes
 
--- a tree of a problem over the box at its cap: a point is accepted where each wanted path leads by the scale, and a form
--- is true where it is that of a row
+-- a tree of a problem over the box at its cap: a point is accepted where each wanted path leads by the scale, and a
+-- form is true where it is that of a row
 abbrev pub IsPrintedTree : DesignProblem → ℕ → ℕ → List Row → CapTree → Type 0
 IsPrintedTree p top nodes rows t = IsPrintedOver (LeadsEach p) (IsFormOfRow p) top nodes (forms_of_rows p rows) (capped (box_of p) t.cap) t.tree
 

@@ -1,26 +1,11 @@
 //! The printed lines of costs.
 ghost use Rattle.std.specs.Prelude.{◌≡◌, ℕ, ◌<◌, ◌≤◌, length, slice_index, All, IfOk};
-ghost use Rattle.printed_rows.specs.PrintedCosts.{ArePrintedCosts, CostLinesOf};
+ghost use Rattle.design_problem.specs.Answers.{CostLinesOf};
+ghost use Rattle.printed_rows.specs.PrintedCosts.{ArePrintedCosts};
 
-use cost_base::{Listed, Name, OutOfMemory};
-use design_problem::{CostLine, Costs, Problem, VarName, greatest_of};
+use cost_base::{Listed, OutOfMemory};
+use design_problem::{CostLine, Costs, Problem, VarName, cost_line, greatest_of};
 use std::alloc::Global;
-
-/// The line that gives an interface the cost of its variable.
-fn cost_line(alloc: Global, name: &VarName, costs: &[u16]) -> Result<CostLine, OutOfMemory>
-    requires { name.now.var < length costs.now }
-    ensures { IfOk result (λ line. line ≡ record {
-      router = name.now.router;
-      interface = name.now.interface;
-      cost = slice_index costs.now name.now.var;
-    }) }
-{
-    Ok(CostLine {
-        router: Name::from_bytes(alloc, name.router.as_bytes())?,
-        interface: Name::from_bytes(alloc, name.interface.as_bytes())?,
-        cost: costs[name.var as usize],
-    })
-}
 
 /// The lines that give each free interface the cost of its variable, in order.
 fn cost_lines(alloc: Global, names: &[VarName], costs: &[u16]) -> Result<Vec<CostLine>, OutOfMemory>
@@ -30,7 +15,9 @@ fn cost_lines(alloc: Global, names: &[VarName], costs: &[u16]) -> Result<Vec<Cos
 {
     let mut lines = Vec::new(alloc);
     for name in names {
-        lines.push(cost_line(alloc, name, costs)?)?;
+        let cost = costs[name.var as usize];
+        let (router, interface) = (name.router.as_bytes(), name.interface.as_bytes());
+        lines.push(cost_line(alloc, router, interface, cost)?)?;
     }
     Ok(lines)
 }

@@ -1,12 +1,13 @@
 //! New numbers for the rows that are named.
 ghost use Rattle.std.specs.Prelude.{◌≡◌, ℕ, ◌<◌, length, map, Bool, All, IfOk};
 ghost use Rattle.std.specs.Option.{option_copied};
-ghost use Rattle.design_problem.specs.Renumbering.{renumbered, renumbered_member, renumbered_part, renumbered_wide};
+ghost use Rattle.cost_base.specs.Marks.{is_marked};
+ghost use Rattle.design_problem.specs.Renumbering.{renumbered, renumbered_member, renumbered_multiplier, renumbered_wide};
 ghost use Rattle.printed_rows.specs.NamedRows.{MemberBelow, NamesBelow, NamesKnown, TreeNamesKnown};
-ghost use Rattle.printed_rows.specs.NewNumbers.{AreNewNumbers, HasNumbers, KeepsOrder, PartsKeepOrder, kept_rows, is_marked, new_number, number_given};
+ghost use Rattle.printed_rows.specs.NewNumbers.{AreNewNumbers, HasNumbers, KeepsOrder, PartsKeepOrder, kept_rows, new_number, number_given};
 
 use cost_base::{Listed, OutOfMemory, push_if};
-use design_problem::{CapTree, Entry, Member, Parts, Tree, WideAt};
+use design_problem::{CapTree, Entry, Member, Multipliers, Tree, WideAt};
 use std::alloc::Global;
 
 /// For each row how many marked ones stand before it.
@@ -82,8 +83,8 @@ fn new_pairs(
     numbers: &[u64],
 ) -> Result<Vec<(u64, u128)>, OutOfMemory>
     requires { All (λ part. part.0 < length numbers.now) parts.now }
-    ensures { IfOk result (λ pairs. pairs.items ≡ map (renumbered_part (number_given numbers.now))
-        parts.now) }
+    ensures { IfOk result (λ pairs. pairs.items ≡ map (renumbered_multiplier (number_given
+        numbers.now)) parts.now) }
 {
     let mut pairs = Vec::new(alloc);
     for (row, multiplier) in parts {
@@ -93,14 +94,18 @@ fn new_pairs(
 }
 
 /// The Refute's rows with their new numbers.
-fn new_parts(alloc: Global, parts: &Parts, numbers: &[u64]) -> Result<Parts, OutOfMemory>
+fn new_parts(
+    alloc: Global,
+    parts: &Multipliers,
+    numbers: &[u64],
+) -> Result<Multipliers, OutOfMemory>
     requires known { All (λ part. part.0 < length numbers.now) parts.now }
     requires order { PartsKeepOrder (number_given numbers.now) parts.now }
-    ensures { IfOk result (λ new. new ≡ map (renumbered_part (number_given numbers.now))
+    ensures { IfOk result (λ new. new ≡ map (renumbered_multiplier (number_given numbers.now))
         parts.now) }
 {
     let pairs = new_pairs(alloc, parts.as_slice(), numbers)?;
-    Ok(Parts::from_items(pairs))
+    Ok(Multipliers::from_items(pairs))
 }
 
 /// The entry with the new numbers of its rows: each row's number stands at its place in `numbers`.

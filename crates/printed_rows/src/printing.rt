@@ -26,8 +26,8 @@ pub struct PrintedTrees<R> {
     pub rows: Listed<R>,
     /// The closed tree, where there is one.
     pub proof: Option<CapTree>,
-    /// The unfinished tree, where there is one.
-    pub unfinished: Option<CapTree>,
+    /// The undecided tree, where there is one.
+    pub undecided: Option<CapTree>,
 }
 
 /// Rows, and any number of trees over them.
@@ -70,24 +70,24 @@ pub fn printed_both<R: Drop>(
     alloc: Global,
     rows: Vec<R>,
     proof: Option<&CapTree>,
-    unfinished: Option<&CapTree>,
+    undecided: Option<&CapTree>,
 ) -> Result<PrintedTrees<R>, OutOfMemory>
     requires proof { TreeNamesBelow (length rows.items) (option_copied proof) }
-    requires unfinished { TreeNamesBelow (length rows.items) (option_copied unfinished) }
+    requires undecided { TreeNamesBelow (length rows.items) (option_copied undecided) }
     ensures { IfOk result (λ sheet. ArePrinted rows.items (option_copied proof.entry)
-        (option_copied unfinished.entry) sheet.rows sheet.proof sheet.unfinished) }
+        (option_copied undecided.entry) sheet.rows sheet.proof sheet.undecided) }
 {
     let mut marks = no_marks(alloc, rows.len())?;
     mark_if_any(&mut marks, proof);
-    mark_if_any(&mut marks, unfinished);
+    mark_if_any(&mut marks, undecided);
     let numbers = new_numbers(alloc, marks.as_slice())?;
     let proof = new_if_any(alloc, proof, numbers.as_slice())?;
-    let unfinished = new_if_any(alloc, unfinished, numbers.as_slice())?;
+    let undecided = new_if_any(alloc, undecided, numbers.as_slice())?;
     let rows = marked_rows(alloc, rows, marks.as_slice())?;
     Ok(PrintedTrees {
         rows: Listed::from_items(rows),
         proof,
-        unfinished,
+        undecided,
     })
 }
 

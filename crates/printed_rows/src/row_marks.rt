@@ -1,19 +1,12 @@
 //! Marks of the rows that trees name.
-ghost use Rattle.std.specs.Prelude.{◌<◌, ◌==◌, length, All};
+ghost use Rattle.std.specs.Prelude.{◌<◌, length, All};
 ghost use Rattle.std.specs.List.{list_any};
 ghost use Rattle.std.specs.Option.{option_copied};
+ghost use Rattle.cost_base.specs.Marks.{AreMarked};
 ghost use Rattle.printed_rows.specs.NamedRows.{MemberBelow, NamesBelow, TreeNamesBelow, entries_in, is_row_named, is_row_named_in, member_names, names, part_names};
-ghost use Rattle.printed_rows.specs.NewNumbers.{AreMarked};
 
+use cost_base::mark;
 use design_problem::{CapTree, Entry, Member, Tree};
-
-/// Marks a row.
-fn mark(marks: &mut Vec<bool>, row: u64)
-    requires { row < length marks.old.items }
-    ensures { AreMarked (λ k. row == k) marks.old.items marks.new.items }
-{
-    marks[row as usize] = true;
-}
 
 /// Marks the row of a form of a basis, where it is a row's.
 fn mark_member(marks: &mut Vec<bool>, member: &Member)
@@ -21,7 +14,7 @@ fn mark_member(marks: &mut Vec<bool>, member: &Member)
     ensures { AreMarked (λ k. member_names k member.now) marks.old.items marks.new.items }
 {
     match member {
-        Member::Row(row) => mark(marks, *row),
+        Member::Row(row) => mark(marks, *row as usize),
         Member::Low(..) | Member::High(..) => {}
     }
 }
@@ -42,7 +35,7 @@ fn mark_parts(marks: &mut Vec<bool>, parts: &[(u64, u128)])
     ensures { AreMarked (λ k. list_any (part_names k) parts.now) marks.old.items marks.new.items }
 {
     for (row, _) in parts {
-        mark(marks, *row);
+        mark(marks, *row as usize);
     }
 }
 
@@ -52,7 +45,7 @@ fn mark_entry(marks: &mut Vec<bool>, entry: &Entry)
     ensures { AreMarked (λ k. names k entry.now) marks.old.items marks.new.items }
 {
     match entry {
-        Entry::Tighten { row, .. } => mark(marks, *row),
+        Entry::Tighten { row, .. } => mark(marks, *row as usize),
         Entry::Halve { wide, .. } => mark_basis(marks, wide.basis.as_slice()),
         Entry::Refute { parts } => mark_parts(marks, parts.as_slice()),
         Entry::Split { .. } | Entry::Undone => {}

@@ -125,7 +125,8 @@ run_from chosen a d w n l (link ∷ links) different n_in within sorted above =
       | inl same ↦
           after_same (slice_index_or d.routers n []) w (is_chosen chosen a d l link) (name_of a d l link)
           (names_where chosen a d (l + 1) links) (same_router d n link.router same)
-          (run_from chosen a d w n (l + 1) links different n_in behind (pairs_tail link links sorted) (All-tail (λ (i : Linked). n ≤ i.router) link links above))
+          (run_from chosen a d w n (l + 1) links different n_in behind (pairs_tail link links sorted)
+          (All-tail (λ (i : Linked). n ≤ i.router) link links above))
       | inr apart ↦ elim apart [
         | inl less ↦
             after_other (slice_index_or d.routers n []) w (is_chosen chosen a d l link) (name_of a d l link) (names_where chosen a d (l + 1) links)
@@ -146,7 +147,8 @@ one_run chosen a d w n l (link ∷ links) different n_in within sorted =
     let behind = All-tail (λ (i : Linked). i.router < length d.routers) link links within in
     elim (cases_order n link.router) [
       | inl same ↦
-          one_same (slice_index_or d.routers n []) w (is_chosen chosen a d l link) (name_of a d l link) (names_where chosen a d (l + 1) links) (same_router d n link.router same)
+          one_same (slice_index_or d.routers n []) w (is_chosen chosen a d l link) (name_of a d l link) (names_where chosen a d (l + 1) links)
+          (same_router d n link.router same)
           (run_from chosen a d w n (l + 1) links different n_in behind (pairs_tail link links sorted)
           (subst (λ (m : ℕ). All (λ b. m ≤ b.router) links) (sym same) (pairs_head link links sorted)))
       | inr apart ↦ elim apart [

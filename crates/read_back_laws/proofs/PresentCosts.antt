@@ -1,4 +1,5 @@
--- The costs of an answer's lines, set in a database: each free link then has the cost of its variable, each fixed link its own.
+-- The costs of an answer's lines, set in a database: each free link then has the cost of its variable, each fixed link
+-- its own.
 use Rattle.std.proofs.Common.{inl, inr, ◌≡◌, ◌≢◌, ℕ, zero, suc, ◌+◌, ◌<◌, refl, sym, ◌∙◌, ap, subst, List, [], ◌∷◌, ◌++◌, length, map, get_or, arith, Bool, true, false, cond, Option, Some}
 use Rattle.std.specs.Prelude.{slice_get, slice_index, slice_index_or, unwrap_or, ◌&&◌, if◌then◌else◌}
 use Rattle.std.specs.List.{AllZip}
@@ -109,7 +110,8 @@ none_named chosen a d w l (link ∷ links) r x before others =
 pub link_cost : (chosen : ℕ → Linked → Bool) (a : Asked) (d : Database) (w : List ℕ) (l : ℕ) (links : List Linked) (r x : List ℕ)
     (before : Option ℕ) (k : ℕ) (link : Linked) → slice_get links k ≡ Some link → is_link_named d r x link ≡ true →
     ((j : ℕ) (other : Linked) → j ≢ k → slice_get links j ≡ Some other → is_link_named d r x other ≡ false) →
-    cost_in (map (named_cost w) (names_where chosen a d l links)) r x before ≡ cost_where (chosen (l + k) link) w (price_of a d (l + k) link (range_of a d link)) before
+    cost_in (map (named_cost w) (names_where chosen a d l links)) r x before ≡
+    cost_where (chosen (l + k) link) w (price_of a d (l + k) link (range_of a d link)) before
 link_cost chosen a d w l [] r x before k link there named others = absurd (cc)
 link_cost chosen a d w l (first ∷ links) r x before zero link there named others =
     let same : first ≡ link = cc in
@@ -221,8 +223,8 @@ prices_back a d w c l (link ∷ links) each =
     ∙ ap (λ (n : ℕ). fixed_at w (price_of a d n other (range_of a d other))) next) in
     cc
 
--- The graph of a database with the costs of the chosen lines is the problem's graph at the costs, where the other links stand
--- at them: free links have the values of their variables, fixed links the cost that they have, or the default.
+-- The graph of a database with the costs of the chosen lines is the problem's graph at the costs, where the other links
+-- stand at them: free links have the values of their variables, fixed links the cost that they have, or the default.
 pub recosted_graph_is : (chosen : ℕ → Linked → Bool) (a : Asked) (d : Database) (w : List ℕ) (lines : List CostLine) → IsAreaDatabase d →
     StandElse chosen a d w → lines ≡ map (named_cost w) (names_where chosen a d 0 d.links) →
     graph_at (recosted (costs_by_lines lines d.routers) d)

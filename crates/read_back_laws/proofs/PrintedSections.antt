@@ -20,8 +20,7 @@ use Rattle.design_problem.specs.declared.answer.Costs.{Costs}
 use Rattle.design_problem.specs.declared.answer.CostLine.{CostLine}
 use Rattle.design_problem.specs.declared.answer.CapTree.{CapTree}
 use Rattle.design_problem.specs.Answers.{AnswerParts}
-use Rattle.design_problem.specs.Text.{spaced, verdict_words, router_lines, cost_lines, costs_lines, row_line, entry_line, tree_lines, answer_lines, text}
-use Rattle.evidence_text.specs.Parts.{end_lines}
+use Rattle.design_problem.specs.Text.{spaced, verdict_words, router_lines, cost_lines, costs_lines, row_line, entry_line, tree_lines, answer_lines, text, end_lines}
 use Rattle.config_reader.specs.Statements.{begin_with}
 use Rattle.config_reader.specs.Sections.{config_section_lines}
 use Rattle.config_reader.proofs.PrintedLines.{all_lack_end, lines-with_ends}
@@ -119,11 +118,11 @@ nothing_opened router (line ∷ ls) other =
 -- no section begins behind the costs
 last_section : (router : List ℕ) (a : AnswerParts) (behind : List (List ℕ)) → all_other behind ≡ true → section router (last_part a ++ behind) ≡ []
 last_section router a behind other =
-    ap (section router) (regrouped (floor_part a) (tree_lines (codes "proof") a.proof) (tree_lines (codes "open") a.unfinished) end_lines behind)
+    ap (section router) (regrouped (floor_part a) (tree_lines (codes "proof") a.proof) (tree_lines (codes "open") a.undecided) end_lines behind)
     ∙ others_section router (floor_part a)
-    (tree_lines (codes "proof") a.proof ++ (tree_lines (codes "open") a.unfinished ++ (end_lines ++ behind))) (other_rows a.rows)
-    ∙ others_section router (tree_lines (codes "proof") a.proof) (tree_lines (codes "open") a.unfinished ++ (end_lines ++ behind)) (other_proof a.proof)
-    ∙ others_section router (tree_lines (codes "open") a.unfinished) (end_lines ++ behind) (other_open a.unfinished)
+    (tree_lines (codes "proof") a.proof ++ (tree_lines (codes "open") a.undecided ++ (end_lines ++ behind))) (other_rows a.rows)
+    ∙ others_section router (tree_lines (codes "proof") a.proof) (tree_lines (codes "open") a.undecided ++ (end_lines ++ behind)) (other_proof a.proof)
+    ∙ others_section router (tree_lines (codes "open") a.undecided) (end_lines ++ behind) (other_open a.undecided)
     ∙ others_section router end_lines behind refl
     ∙ nothing_opened router behind other
   where
@@ -262,7 +261,8 @@ sections_printed before behind a costs some words early late front back = λ rou
     regrouped : (h c l b : List (List ℕ)) → (h ++ (c ++ l)) ++ b ≡ h ++ (c ++ (l ++ b))
     regrouped h c l b = simp append_assoc
 
--- So are the sections of a text with these lines of costs between lines that open none, where the lines behind them end a section.
+-- So are the sections of a text with these lines of costs between lines that open none, where the lines behind them end
+-- a section.
 pub sections_between : (before behind : List (List ℕ)) (ls : List CostLine) → All NamesWords ls → all_lack_end before ≡ true →
     all_lack_end behind ≡ true → all_other before ≡ true → all_other behind ≡ true → until_end behind ≡ [] →
     PrintsSections (with_ends (before ++ (cost_lines None ls ++ behind))) ls

@@ -27,8 +27,7 @@ use Rattle.design_problem.specs.declared.answer.Floor.{Floor}
 use Rattle.design_problem.specs.declared.answer.Floor.TheVariants.{Absent, Empty, Var}
 use Rattle.design_problem.specs.declared.answer.CapTree.{CapTree}
 use Rattle.design_problem.specs.Answers.{AnswerParts}
-use Rattle.design_problem.specs.Text.{spaced, verdict_words, router_lines, cost_lines, costs_lines, floor_word, row_line, side_word, step_word, integer, ratio_word, member_words, members_words, part_words, entry_line, tree_lines, answer_lines, text}
-use Rattle.evidence_text.specs.Parts.{end_lines}
+use Rattle.design_problem.specs.Text.{spaced, verdict_words, router_lines, cost_lines, costs_lines, floor_word, row_line, side_word, step_word, integer, ratio_word, member_words, members_words, multiplier_words, entry_line, tree_lines, answer_lines, text, end_lines}
 use Rattle.config_reader.proofs.PrintedLines.{lacks_end, word_lacks_end, all_lack_end, lines-with_ends}
 use Rattle.text_lines.proofs.LineLaws.{with_ends-append}
 use Rattle.text_lines.proofs.WordLaws.{decimal-word}
@@ -98,11 +97,11 @@ members_lack : (ms : List Member) → all_lack_end (members_words ms) ≡ true
 members_lack [] = refl
 members_lack (m ∷ ms) = all_append (member_words m) (members_words ms) (member_lacks m) (members_lack ms)
 
-parts_lack : (parts : List (ℕ × ℕ)) → all_lack_end (part_words parts) ≡ true
+parts_lack : (parts : List (ℕ × ℕ)) → all_lack_end (multiplier_words parts) ≡ true
 parts_lack [] = refl
 parts_lack (part ∷ parts) =
-    all_cons (decimal part.0) (decimal part.1 ∷ part_words parts) (decimal_lacks part.0)
-    (all_cons (decimal part.1) (part_words parts) (decimal_lacks part.1) (parts_lack parts))
+    all_cons (decimal part.0) (decimal part.1 ∷ multiplier_words parts) (decimal_lacks part.0)
+    (all_cons (decimal part.1) (multiplier_words parts) (decimal_lacks part.1) (parts_lack parts))
 
 entry_lacks : (e : Entry) → lacks_end (entry_line e) ≡ true
 entry_lacks (Tighten v side bound row) =
@@ -118,7 +117,7 @@ entry_lacks (Halve v bound wide) =
     (all_cons (step_word wide.step) (ratio_word wide.left ∷ ratio_word wide.right ∷ members_words wide.basis) (step_lacks wide.step)
     (all_cons (ratio_word wide.left) (ratio_word wide.right ∷ members_words wide.basis) (ratio_lacks wide.left)
     (all_cons (ratio_word wide.right) (members_words wide.basis) (ratio_lacks wide.right) (members_lack wide.basis))))))
-entry_lacks (Refute parts) = spaced_lacks (codes "refute" ∷ part_words parts) (parts_lack parts)
+entry_lacks (Refute parts) = spaced_lacks (codes "refute" ∷ multiplier_words parts) (parts_lack parts)
 entry_lacks Undone = refl
 
 entries_lack : (es : List Entry) → all_lack_end (map entry_line es) ≡ true
@@ -183,25 +182,25 @@ abbrev pub floor_part : AnswerParts → List (List ℕ)
 floor_part a = spaced (codes "floor" ∷ floor_word a.floor ∷ []) ∷ spaced (codes "rows" ∷ decimal (length a.rows) ∷ []) ∷ map row_line a.rows
 
 abbrev pub last_part : AnswerParts → List (List ℕ)
-last_part a = floor_part a ++ (tree_lines (codes "proof") a.proof ++ (tree_lines (codes "open") a.unfinished ++ end_lines))
+last_part a = floor_part a ++ (tree_lines (codes "proof") a.proof ++ (tree_lines (codes "open") a.undecided ++ end_lines))
 
 regrouped : (p c f t u e : List (List ℕ)) → p ++ c ++ f ++ t ++ u ++ e ≡ p ++ (c ++ (f ++ (t ++ (u ++ e))))
 regrouped p c f t u e = simp append_assoc
 
 pub parts_are : (a : AnswerParts) → answer_lines a ≡ head_part a ++ (costs_lines a.costs ++ last_part a)
 parts_are a = regrouped (head_part a) (costs_lines a.costs) (floor_part a) (tree_lines (codes "proof") a.proof)
-    (tree_lines (codes "open") a.unfinished) end_lines
+    (tree_lines (codes "open") a.undecided) end_lines
 
 last_lacks : (a : AnswerParts) → all_lack_end (last_part a) ≡ true
 last_lacks a =
-    all_append (floor_part a) (tree_lines (codes "proof") a.proof ++ (tree_lines (codes "open") a.unfinished ++ end_lines))
+    all_append (floor_part a) (tree_lines (codes "proof") a.proof ++ (tree_lines (codes "open") a.undecided ++ end_lines))
     (all_cons (spaced (codes "floor" ∷ floor_word a.floor ∷ [])) (spaced (codes "rows" ∷ decimal (length a.rows) ∷ []) ∷ map row_line a.rows)
     (spaced_lacks (codes "floor" ∷ floor_word a.floor ∷ []) (all_cons (floor_word a.floor) [] (floor_lacks a.floor) refl))
     (all_cons (spaced (codes "rows" ∷ decimal (length a.rows) ∷ [])) (map row_line a.rows)
     (spaced_lacks (codes "rows" ∷ decimal (length a.rows) ∷ []) (decimals_lack (length a.rows ∷ [])))
     (rows_lack a.rows)))
-    (all_append (tree_lines (codes "proof") a.proof) (tree_lines (codes "open") a.unfinished ++ end_lines) (tree_lacks (codes "proof") a.proof refl)
-    (all_append (tree_lines (codes "open") a.unfinished) end_lines (tree_lacks (codes "open") a.unfinished refl) refl))
+    (all_append (tree_lines (codes "proof") a.proof) (tree_lines (codes "open") a.undecided ++ end_lines) (tree_lacks (codes "proof") a.proof refl)
+    (all_append (tree_lines (codes "open") a.undecided) end_lines (tree_lacks (codes "open") a.undecided refl) refl))
 
 head_lacks : (a : AnswerParts) → all_lack_end (head_part a) ≡ true
 head_lacks a = all_cons (spaced (codes "verdict" ∷ verdict_words a.verdict)) []

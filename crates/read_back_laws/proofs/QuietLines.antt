@@ -5,8 +5,7 @@ use Rattle.cost_base.specs.Decimal.{decimal}
 use Rattle.config_reader.proofs.PrintedLines.{lacks_end, all_lack_end}
 use Rattle.design_problem.specs.declared.form.Row.{Row}
 use Rattle.design_problem.specs.declared.answer.CapTree.{CapTree}
-use Rattle.design_problem.specs.Text.{row_line, tree_lines}
-use Rattle.evidence_text.specs.Parts.{rows_line, rows_lines}
+use Rattle.design_problem.specs.Text.{row_line, tree_lines, rows_line, rows_lines}
 use Rattle.read_back_laws.proofs.PrintedText.{all_append, all_cons, decimals_lack, rows_lack, spaced_lacks, tree_lacks}
 use Rattle.read_back_laws.proofs.PrintedSections.{all_other, starts_other, other_open, other_proof, other_rows, others_append, others_cons}
 

@@ -25,7 +25,7 @@ use Rattle.lsdb_build.proofs.LinkOwners.{interface_names, IsLinkOf, links_of_rou
 use Rattle.design_problem.specs.declared.problem.VarName.{VarName}
 use Rattle.design_problem.specs.declared.answer.CostLine.{CostLine}
 use Rattle.design_problem.specs.Problems.{DesignProblem}
-use Rattle.design_problem.specs.Answers.{Names}
+use Rattle.design_problem.specs.Answers.{CostLinesOf}
 use Rattle.request_reader.specs.Asked.{Asked}
 use Rattle.path_requests.specs.Meaning.{present_cost, names_from, range_of, is_free, variable_of}
 use Rattle.cost_base.proofs.ListLemmas.{map-agree}
@@ -77,7 +77,8 @@ heads_named : (file_name bytes name : List ℕ) → Contains (interface_names (c
 heads_named file_name bytes name held =
     subst (λ (names : List (List ℕ)). Contains names name) (same (first_heads (lines bytes))) held
   where
-    same : (heads : List (List ℕ × ℕ)) → map (λ i. i.name) (map (λ head. interface_as_set (said (lines bytes)) head.0 head.1) heads) ≡ map (λ head. head.0) heads
+    same : (heads : List (List ℕ × ℕ)) → map (λ i. i.name) (map (λ head. interface_as_set (said (lines bytes)) head.0 head.1) heads) ≡
+        map (λ head. head.0) heads
     same [] = refl
     same (head ∷ heads) = ap (λ (names : List (List ℕ)). head.0 ∷ names) (same heads)
 
@@ -150,7 +151,8 @@ section_cost d files w k file name base names there known cost same =
     one e = cc
 
 -- what is known of lines of costs that name free interfaces of a database, and of a text with their sections
-record PrintsCosts (chosen : ℕ → Linked → Bool) (d : Database) (asked : Asked) (files : List ConfigFile) (bytes : List ℕ) (ls : List CostLine) (w : List ℕ) : Type 0 where
+record PrintsCosts (chosen : ℕ → Linked → Bool) (d : Database) (asked : Asked) (files : List ConfigFile) (bytes : List ℕ) (ls : List CostLine) (w : List ℕ) :
+    Type 0 where
   base : IsAreaDatabase d
   names : d.routers ≡ map (λ r. r.name) (routers_of files)
   known : All (IsNameOf d.routers (routers_of files)) (names_where chosen asked d 0 d.links)
@@ -170,12 +172,14 @@ section_of chosen d asked files bytes ls w k file printed there =
     let config : slice_get (routers_of files) k ≡ Some (config_of file.name file.bytes) =
     slice_get-map (λ (f : ConfigFile). config_of f.name f.bytes) files k
     ∙ ap (option_map (λ (f : ConfigFile). config_of f.name f.bytes)) there in
-    let stands : slice_index_or d.routers k [] ≡ (config_of file.name file.bytes).name = named_at d files k (config_of file.name file.bytes) printed.names config in
+    let stands : slice_index_or d.routers k [] ≡ (config_of file.name file.bytes).name = named_at d files k (config_of file.name file.bytes) printed.names
+    config in
     let inside = router_in d files k (config_of file.name file.bytes) printed.names config in
     let run : OneRun (config_of file.name file.bytes).name ls
     = subst (λ (them : List CostLine). OneRun (config_of file.name file.bytes).name them) (sym printed.are)
     (subst (λ (r : List ℕ). OneRun r (map (named_cost w) (names_where chosen asked d 0 d.links))) stands
-    (one_run chosen asked d w k 0 d.links printed.base.different inside (λ j link link_in. (printed.base.each_link j link link_in).router) printed.base.in_order)) in
+    (one_run chosen asked d w k 0 d.links printed.base.different inside (λ j link link_in. (printed.base.each_link j link link_in).router)
+    printed.base.in_order)) in
     record {
       stands = stands;
       section_is = printed.prints (config_of file.name file.bytes).name run;
@@ -237,8 +241,8 @@ routers_back_are chosen d asked files bytes ls w printed =
     router_back_is d.routers bytes ls k file (section_of chosen d asked files bytes ls w k file printed there)
     ∙ ap (λ m. recosted_router (c m) (config_of file.name file.bytes)) place)
 
--- Costs whose sections are printed are read back, where all other free interfaces stand at them: no configuration with its
--- section has a fault, nor their topology, and the graph is the problem's at the costs.
+-- Costs whose sections are printed are read back, where all other free interfaces stand at them: no configuration with
+-- its section has a fault, nor their topology, and the graph is the problem's at the costs.
 pub read_back_for : (chosen : ℕ → Linked → Bool) (d : Input) (bytes : List ℕ) (ls : List CostLine) (w : List ℕ) → IsReadyInput d →
     PrintsSections bytes ls → ls ≡ map (named_cost w) (names_in chosen d) → StandElse chosen d.asked d.database w →
     All (IsPrintable w) (names_in chosen d) → IsReadBackFor d (names_in chosen d) bytes w
@@ -295,7 +299,7 @@ every_name a d l (link ∷ links) =
 
 -- so costs of all free interfaces are
 pub read_back : (d : Input) (bytes : List ℕ) (ls : List CostLine) (w : List ℕ) → IsReadyInput d → PrintsSections bytes ls →
-    Names d.problem ls w → All (λ name. (1 ≤ slice_index w name.var) × (slice_index w name.var ≤ 65535)) d.problem.vars →
+    CostLinesOf w d.problem.vars ls → All (λ name. (1 ≤ slice_index w name.var) × (slice_index w name.var ≤ 65535)) d.problem.vars →
     IsReadBack d bytes w
 read_back d bytes ls w ready prints names within =
     subst (λ (them : List VarName). IsReadBackFor d them bytes w) (sym all)

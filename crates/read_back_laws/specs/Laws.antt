@@ -12,13 +12,14 @@ use Rattle.input_files.specs.Readings.{Says, EndsAs}
 use Rattle.input_files.specs.Outcomes.{Input, outcome}
 use Rattle.read_back_laws.specs.ReadBack.{IsPrintable, IsReadBackFor, StandElse, names_in, pairs_of, section}
 
--- each router's section of the text has the lines of its chosen interfaces, in their order, each at the cost of its variable
+-- each router's section of the text has the lines of its chosen interfaces, in their order, each at the cost of its
+-- variable
 abbrev pub HasSections : (ℕ → Linked → Bool) → Input → List ℕ → List ℕ → Type 0
 HasSections chosen d text w =
     (router : List ℕ) → section router (lines text) ≡ config_section_lines (pairs_of router (map (named_cost w) (names_in chosen d)))
 
--- A text with the lines of some free interfaces of what the files say, all others having the costs of their variables at
--- present: read behind the configurations it is the network at these costs.
+-- A text with the lines of some free interfaces of what the files say, all others having the costs of their variables
+-- at present: read behind the configurations it is the network at these costs.
 abbrev pub SectionsReadBack : View → Type 0
 SectionsReadBack view =
     (chosen : ℕ → Linked → Bool) (names : InputFiles) (d : Input) (came : List Taken) (text w : List ℕ) →

@@ -110,9 +110,9 @@ StandElse chosen a d w =
     (l : ℕ) (link : Linked) → slice_get d.links l ≡ Some link → is_free (range_of a d link) ≡ true → chosen l link ≡ false →
     present_cost a link ≡ slice_index w (variable_of a d l)
 
--- The configurations with their sections of the text are accepted, whatever their length: none has a fault. Each says what
--- it said before, with these costs of these interfaces. The topology that they make has no fault, and its graph is the
--- problem's at these costs: so every other free interface has the cost of its variable already.
+-- The configurations with their sections of the text are accepted, whatever their length: none has a fault. Each says
+-- what it said before, with these costs of these interfaces. The topology that they make has no fault, and its graph is
+-- the problem's at these costs: so every other free interface has the cost of its variable already.
 pub record IsReadBackFor (d : Input) (names : List VarName) (text w : List ℕ) : Type 0 where
   pub accepted : All (λ file. config_fault file.name (bytes_back text file) ≡ None) d.files
   pub routers : All (λ file. router_read_back text file ≡ router_with w names (config_of file.name file.bytes)) d.files

@@ -1,3 +1,4 @@
 pub mod ReportLaws
+pub mod Rejections
 pub mod Writing
 pub mod Cuts

@@ -1,3 +1,4 @@
 pub mod Texts
+pub mod Rejections
 pub mod Reports
 pub mod Cutting

@@ -35,13 +35,14 @@ abbrev pub ReportsAny : Result Report Stop → Result Report OutOfMemory → Typ
 ReportsAny (Ok report) made = made ≡ Ok report
 ReportsAny (Err stop) made = ReportsStop stop made
 
--- the sink was handed the whole text or, where it refused some of it, a prefix; and the refusal has its cause in the sink
+-- the sink was handed the whole text or, where it refused some of it, a prefix; and the refusal has its cause in the
+-- sink
 pub record IsHanded {T E : Type 0} (handed : List ℕ → Type 0) (count_before count_now : ℕ) (text : List ℕ) (result : Result T E) : Type 0 where
   pub bytes : Hands handed text result
   pub cause : HasCause count_before count_now result
 
--- A report of this status and text was written, and the run ends with its status; or a prefix of the text was written, the
--- sink's count rose, and the run ends with a fault of writing.
+-- A report of this status and text was written, and the run ends with its status; or a prefix of the text was written,
+-- the sink's count rose, and the run ends with a fault of writing.
 abbrev pub IsWritten : Status → List ℕ → (List ℕ → Type 0) → ℕ → ℕ → Status → Type 0
 IsWritten aim text handed count_before count_now end =
     ((end ≡ aim) × handed text) ⊎ ((end ≡ status.WriteFault) × ((n : ℕ) × handed (take n text)) × Rose count_before count_now)

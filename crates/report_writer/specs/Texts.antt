@@ -1,13 +1,9 @@
 -- The lines that a run writes beside an answer.
-use Rattle.std.specs.Prelude.{ℕ, List, [], ◌∷◌, ◌++◌, codes}
-use Rattle.std.specs.List.{join_with_byte}
+use Rattle.std.specs.Prelude.{ℕ, List, [], ◌∷◌, codes}
 use Rattle.cost_base.specs.Decimal.{decimal}
+use Rattle.line_builder.specs.Words.{line_of_words}
 use Rattle.input_files.specs.Readings.{InputRefusal}
 use Rattle.report_writer.specs.declared.rejection.Rejection.{Rejection}
-
--- a line of words: one space between each two, and an LF behind them
-abbrev pub line_of_words : List (List ℕ) → List ℕ
-line_of_words words = join_with_byte 32 words ++ 10 ∷ []
 
 -- the line `refused NUMBER FILE PLACE` of a refusal, with an LF
 abbrev pub refused_line : InputRefusal → List ℕ

@@ -6,6 +6,6 @@ mod rejection;
 mod report;
 mod writer;
 
-pub use rejection::{Rejection, rejected_line_of};
+pub use rejection::{Rejection, rejection_of};
 pub use report::{Report, Text, report_of};
 pub use writer::write_report;

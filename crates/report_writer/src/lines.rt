@@ -3,8 +3,8 @@ ghost use Rattle.std.specs.Prelude.{◌≡◌, IfOk};
 ghost use Rattle.report_writer.specs.Texts.{refused_line, read_fault_line};
 
 use cost_base::OutOfMemory;
+use line_builder::LineBuilder;
 use std::alloc::Global;
-use text_lines::{push_bytes, push_number};
 
 /// The line `refused NUMBER FILE PLACE`.
 pub(crate) fn refused_line_of(
@@ -17,24 +17,18 @@ pub(crate) fn refused_line_of(
         (λ text. text.items ≡
         refused_line (record { number = number; file = file.now; line = line })) }
 {
-    let mut text = Vec::new(alloc);
-    push_bytes(&mut text, b"refused ")?;
-    push_number(&mut text, u128::from(number))?;
-    push_bytes(&mut text, b" ")?;
-    push_bytes(&mut text, file.as_bytes())?;
-    push_bytes(&mut text, b" ")?;
-    push_number(&mut text, u128::from(line))?;
-    push_bytes(&mut text, b"\n")?;
-    Ok(text)
+    let mut words = LineBuilder::new(alloc, b"refused")?;
+    words.number(u128::from(number))?;
+    words.word(file.as_bytes())?;
+    words.number(u128::from(line))?;
+    words.ended()
 }
 
 /// The line `read fault FILE`.
 pub(crate) fn read_fault_line_of(alloc: Global, file: &str) -> Result<Vec<u8>, OutOfMemory>
     ensures { IfOk result (λ text. text.items ≡ read_fault_line (file.now)) }
 {
-    let mut text = Vec::new(alloc);
-    push_bytes(&mut text, b"read fault ")?;
-    push_bytes(&mut text, file.as_bytes())?;
-    push_bytes(&mut text, b"\n")?;
-    Ok(text)
+    let mut line = LineBuilder::new(alloc, b"read fault")?;
+    line.word(file.as_bytes())?;
+    line.ended()
 }

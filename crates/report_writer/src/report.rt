@@ -1,9 +1,12 @@
 //! What a command reports: a status, and the text that goes with it.
-ghost use Rattle.std.specs.Prelude.{◌≡◌};
+ghost use Rattle.std.specs.Prelude.{◌≡◌, IfOk};
+ghost use Rattle.cost_base.specs.declared.Status.TheVariants.{EvidenceRefused};
 ghost use Rattle.report_writer.specs.Cutting.{piece_size, size_of_piece};
 ghost use Rattle.report_writer.specs.Reports.{Reports, ReportsAny, ReportsStop, bytes_in};
+ghost use Rattle.report_writer.specs.Texts.{rejected_line};
 
 use crate::lines::{read_fault_line_of, refused_line_of};
+use crate::rejection::{Rejection, rejected_line_of};
 use cost_base::{OutOfMemory, Status};
 use input_files::Stop;
 use std::alloc::Global;
@@ -80,6 +83,18 @@ impl Report {
             status,
             text: Text::Lsas(bytes),
         }
+    }
+
+    /// The report of a file with costs or evidence that is rejected.
+    ///
+    /// # Errors
+    ///
+    /// `OutOfMemory`.
+    pub fn rejected(alloc: Global, rejection: Rejection) -> Result<Report, OutOfMemory>
+        ensures { IfOk result (Reports EvidenceRefused (rejected_line rejection)) }
+    {
+        let text = rejected_line_of(alloc, rejection)?;
+        Ok(Report::made(Status::EvidenceRefused, text))
     }
 }
 

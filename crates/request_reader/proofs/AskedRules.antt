@@ -4,12 +4,11 @@ use Rattle.std.specs.Prelude.{nat_le, IfSome, count_by}
 use Rattle.std.proofs.lemmas.Bool.{leb-false}
 use Rattle.std.proofs.lemmas.List.Elements.{All-nil, All-cons, All-append}
 use Rattle.std.proofs.lemmas.List.Sums.{sum_by-append}
-use Rattle.cost_base.specs.Lists.{first_of}
-use Rattle.cost_base.proofs.ListLemmas.{append-none}
+use Rattle.cost_base.proofs.ListLemmas.{append-none, none_first}
 use Rattle.text_lines.specs.Lines.{lines}
 use Rattle.text_lines.specs.Statements.{text_faults}
 use Rattle.text_lines.proofs.StatementLaws.{lawful_statements}
-use Rattle.request_reader.specs.declared.Item.{Item}
+use Rattle.request_reader.specs.declared.DirectiveLine.{DirectiveLine}
 use Rattle.request_reader.specs.declared.Directive.{Directive}
 use Rattle.request_reader.specs.declared.fault.RequestFault.TheVariants.{TooManyPaths}
 use Rattle.request_reader.specs.declared.reading.statement.Statement.{Statement}
@@ -20,11 +19,6 @@ use Rattle.request_reader.specs.Reading.{Told, told_by, fault_said, request_rule
 use Rattle.request_reader.specs.ReadingSteps.{told_with, KeepsRules}
 use Rattle.request_reader.proofs.ReadingLaws.{told_next}
 use Rattle.request_reader.proofs.ReadingRules.{statement_rules}
-
--- where a list has no first element it is empty
-pub none_first : {X : Type 0} (xs : List X) → first_of xs ≡ None → xs ≡ []
-none_first [] none = refl
-none_first (x ∷ xs) none = absurd (cc)
 
 -- what some statements say together keeps the rules
 record ToldKeeps (told : Told) : Type 0 where
@@ -43,13 +37,13 @@ one_path_more false many n few_is few none = omega arith
 kept_directive : (told : Told) (n : ℕ) (directive : Directive) → ToldKeeps told → HasGoodBounds directive →
     fault_said told (Ask directive) ≡ None → ToldKeeps (told_with told n (Ask directive))
 kept_directive told n directive kept bounds none =
-    let item : Item = record { line = n; what = directive } in
+    let item : DirectiveLine = record { line = n; what = directive } in
     let counted : count_by is_path (told.items ++ item ∷ []) ≡ count_by is_path told.items + (0 + cond (is_path_directive directive) 1 0)
-    = sum_by-append (λ (i : Item). cond (is_path i) 1 0) told.items (item ∷ []) in
+    = sum_by-append (λ (i : DirectiveLine). cond (is_path i) 1 0) told.items (item ∷ []) in
     let more = one_path_more (is_path_directive directive) (nat_le 10000 (count_by is_path told.items)) (count_by is_path told.items) refl kept.paths none in
     record {
-      bounds = All-append (λ (i : Item). HasGoodBounds i.what) told.items (item ∷ []) kept.bounds
-          (All-cons (λ (i : Item). HasGoodBounds i.what) item [] bounds (All-nil (λ (i : Item). HasGoodBounds i.what)));
+      bounds = All-append (λ (i : DirectiveLine). HasGoodBounds i.what) told.items (item ∷ []) kept.bounds
+          (All-cons (λ (i : DirectiveLine). HasGoodBounds i.what) item [] bounds (All-nil (λ (i : DirectiveLine). HasGoodBounds i.what)));
       default = kept.default;
       paths = omega (arith, counted, more);
     }
@@ -68,7 +62,7 @@ asked_keeps bytes none =
     let file = lines bytes in
     let parts = append-none (text_faults request_rules file) (area_faults file) (none_first (request_faults file) none) in
     let kept = lawful_statements request_rules (λ before. ToldKeeps (told_by before)) file
-    (record { bounds = All-nil (λ (i : Item). HasGoodBounds i.what); default = tt; paths = omega arith })
+    (record { bounds = All-nil (λ (i : DirectiveLine). HasGoodBounds i.what); default = tt; paths = omega arith })
     (λ before s kept lawful. subst ToldKeeps (told_next before s lawful)
     (kept_more (told_by before) s.line (request_statement_of s.words) kept (statement_rules s.words (request_statement_of s.words) refl) lawful)) parts.0 in
     record { bounds = kept.bounds; default = kept.default; paths = kept.paths }

@@ -4,7 +4,7 @@ use Rattle.std.specs.Prelude.{Option, Some, None, codes}
 use Rattle.text_lines.specs.Lines.{with_ends, words}
 use Rattle.text_lines.specs.Statements.{said_words}
 use Rattle.text_lines.specs.LineFaults.{FaultyLine}
-use Rattle.request_reader.specs.declared.Part.TheVariants.{Router, Interface}
+use Rattle.request_reader.specs.declared.Excluded.TheVariants.{Router, Interface}
 use Rattle.request_reader.specs.declared.Directive.TheVariants.{FreeAll, Free, Fix, Path, SymmetricAll, Symmetric}
 use Rattle.request_reader.specs.declared.fault.RequestFault.{RequestFault}
 use Rattle.request_reader.specs.declared.fault.RequestFault.TheVariants.{BadRequestLine, BadBounds}

@@ -1,26 +1,26 @@
 -- The statements of a request file, one after another.
 use Rattle.std.specs.Prelude.{is_some, Result, Ok, Err, OnOk, IfErr}
-use Rattle.std.specs.List.{cons_option, filter_map}
+use Rattle.std.specs.List.{cons_option}
 use Rattle.std.specs.Option.{option_or}
 use Rattle.std.proofs.Common.{◌≡◌, ℕ, ◌+◌, refl, sym, ◌∙◌, ap, subst, List, [], ◌∷◌, ◌++◌, length, true, false, Option, Some, None, append-nil}
 use Rattle.std.proofs.lemmas.Bool.{cond-true, cond-false}
 use Rattle.std.proofs.lemmas.List.Elements.{filter_map-append}
 use Rattle.std.proofs.lemmas.Result.{on_ok_weaker, MatchResult-weaker}
 use Rattle.cost_base.specs.Lists.{first_of}
-use Rattle.cost_base.proofs.ListLemmas.{first_of-push_option, option_or-none}
+use Rattle.cost_base.proofs.ListLemmas.{option_or-none, first_of-filter_map-push}
 use Rattle.cost_base.specs.declared.refusal.Refusal.{Refusal}
 use Rattle.cost_base.specs.declared.refusal.Refusal.TheVariants.{Refused as StopRefused, OutOfMemory}
 use Rattle.text_lines.specs.Lines.{lines}
 use Rattle.text_lines.specs.LineFaults.{FaultyLine, TellsFault, fault_at, fault_in_line}
 use Rattle.text_lines.specs.Statements.{SaidLine, statements, text_fault, text_faults}
-use Rattle.request_reader.specs.declared.Item.{Item}
+use Rattle.request_reader.specs.declared.DirectiveLine.{DirectiveLine}
 use Rattle.request_reader.specs.declared.fault.RequestFault.{RequestFault}
 use Rattle.request_reader.specs.declared.fault.RequestFault.TheVariants.{BadRequestLine}
 use Rattle.request_reader.specs.declared.reading.statement.Statement.{Statement}
 use Rattle.request_reader.specs.declared.reading.statement.Statement.TheVariants.{Area, DefaultCost, Ask, Refused}
 use Rattle.request_reader.specs.Asked.{Asked}
 use Rattle.request_reader.specs.ReadingLines.{request_statement_of}
-use Rattle.request_reader.specs.Reading.{Told, area_in, default_cost_in, item_in, told_by, fault_said, request_rules, area_faults, request_fault, asked_of, asked_by}
+use Rattle.request_reader.specs.Reading.{Told, area_in, default_cost_in, line_in, told_by, fault_said, request_rules, area_faults, request_fault, asked_of, asked_by}
 use Rattle.request_reader.specs.ReadingSteps.{told_with}
 
 -- what some statements say together, and one more in the line of number n
@@ -28,22 +28,18 @@ abbrev told_more : Told → ℕ → Statement → Told
 told_more told n said = record {
   area = option_or told.area (area_in said);
   default_cost = option_or told.default_cost (default_cost_in said);
-  items = told.items ++ cons_option (item_in n said) [];
+  items = told.items ++ cons_option (line_in n said) [];
 }
-
-first_push : {X : Type 0} (pick : SaidLine → Option X) (before : List SaidLine) (s : SaidLine) →
-    first_of (filter_map pick (before ++ s ∷ [])) ≡ option_or (first_of (filter_map pick before)) (pick s)
-first_push {X} pick before s = ap first_of (filter_map-append pick before (s ∷ [])) ∙ first_of-push_option (pick s) (filter_map pick before)
 
 told_push : (before : List SaidLine) (s : SaidLine) → told_by (before ++ s ∷ []) ≡ told_more (told_by before) s.line (request_statement_of s.words)
 told_push before s =
-    let area = first_push (λ t. area_in (request_statement_of t.words)) before s in
-    let cost = first_push (λ t. default_cost_in (request_statement_of t.words)) before s in
-    let items = filter_map-append (λ t. item_in t.line (request_statement_of t.words)) before (s ∷ []) in
+    let area = first_of-filter_map-push (λ (t : SaidLine). area_in (request_statement_of t.words)) before s in
+    let cost = first_of-filter_map-push (λ (t : SaidLine). default_cost_in (request_statement_of t.words)) before s in
+    let items = filter_map-append (λ t. line_in t.line (request_statement_of t.words)) before (s ∷ []) in
     cc (area, cost, items)
 
 -- a statement without a fault adds what it says
-told_is : (area cost : Option ℕ) (items : List Item) (n : ℕ) (said : Statement) →
+told_is : (area cost : Option ℕ) (items : List DirectiveLine) (n : ℕ) (said : Statement) →
     fault_said (record { area = area; default_cost = cost; items = items }) said ≡ None →
     told_with (record { area = area; default_cost = cost; items = items }) n said
     ≡ told_more (record { area = area; default_cost = cost; items = items }) n said
@@ -107,7 +103,7 @@ pub taken_refused : {T : Type 0} (r : Result T (Refusal RequestFault ℕ)) (told
 taken_refused {T} r told n said words is tells =
     MatchResult-weaker r tells (λ _ t. t) (λ refusal t start before same. said_refused told n said words refusal is t before same)
 
--- The whole file, as `read_requests` reads it.
+-- The whole file, as `read_request_file` reads it.
 
 -- where the text has no fault, the file's first fault is a missing area
 fault_left : (faults others : List (FaultyLine RequestFault)) → first_of faults ≡ None → first_of (faults ++ others) ≡ first_of others

@@ -6,7 +6,7 @@ use Rattle.std.proofs.lemmas.List.Elements.{All-nil, All-cons, All-append}
 use Rattle.std.proofs.lemmas.List.Sums.{sum_by-append}
 use Rattle.cost_base.specs.declared.refusal.Refusal.{Refusal}
 use Rattle.text_lines.specs.LineFaults.{TellsFault, fault_at, fault_in_line}
-use Rattle.request_reader.specs.declared.Item.{Item}
+use Rattle.request_reader.specs.declared.DirectiveLine.{DirectiveLine}
 use Rattle.request_reader.specs.declared.Directive.{Directive}
 use Rattle.request_reader.specs.declared.fault.RequestFault.{RequestFault}
 use Rattle.request_reader.specs.declared.fault.RequestFault.TheVariants.{TooManyPaths}
@@ -15,11 +15,11 @@ use Rattle.request_reader.specs.Asked.{HasGoodBounds, is_path, is_path_directive
 use Rattle.request_reader.specs.Reading.{Told, fault_said}
 use Rattle.request_reader.specs.ReadingSteps.{KeepsTold}
 
-abbrev told_of : Option ℕ → Option ℕ → List Item → Told
+abbrev told_of : Option ℕ → Option ℕ → List DirectiveLine → Told
 told_of area default items = record { area = area; default_cost = default; items = items }
 
 -- so many paths were read
-pub counted_now : (area default : Option ℕ) (items : List Item) (told : Told) (paths : ℕ) →
+pub counted_now : (area default : Option ℕ) (items : List DirectiveLine) (told : Told) (paths : ℕ) →
     record { area = area; default_cost = default; items = items } ≡ told → count_by is_path items ≡ paths →
     count_by is_path told.items ≡ paths
 counted_now area default items told paths view counted =
@@ -50,27 +50,27 @@ path_lawful told what paths counted few =
     ap (λ (b : Bool). cond b (Some TooManyPaths) None) test
 
 -- one path more keeps the rules
-pub path_kept : (default : Option ℕ) (paths : ℕ) (items after : List Item) (item : Item) → KeepsTold default paths items →
+pub path_kept : (default : Option ℕ) (paths : ℕ) (items after : List DirectiveLine) (item : DirectiveLine) → KeepsTold default paths items →
     HasGoodBounds item.what → is_path item ≡ true → paths < 10000 → after ≡ items ++ item ∷ [] →
     KeepsTold default (paths + 1) after
 path_kept default paths items after item kept bounds path few added =
     let one : ◌≡◌ {A = ℕ} (cond (is_path item) 1 0) 1 = ap (λ (b : Bool). cond b 1 0) path in
     let counted : count_by is_path (items ++ item ∷ []) ≡ count_by is_path items + (0 + cond (is_path item) 1 0)
-    = sum_by-append (λ (i : Item). cond (is_path i) 1 0) items (item ∷ []) in
+    = sum_by-append (λ (i : DirectiveLine). cond (is_path i) 1 0) items (item ∷ []) in
     let all : count_by is_path (items ++ item ∷ []) ≡ paths + 1 = omega (arith, counted, one, kept.counted) in
     record {
-      bounds = subst (All (λ (i : Item). HasGoodBounds i.what)) (sym added)
-          (All-append (λ (i : Item). HasGoodBounds i.what) items (item ∷ []) kept.bounds
-          (All-cons (λ (i : Item). HasGoodBounds i.what) item [] bounds (All-nil (λ (i : Item). HasGoodBounds i.what))));
+      bounds = subst (All (λ (i : DirectiveLine). HasGoodBounds i.what)) (sym added)
+          (All-append (λ (i : DirectiveLine). HasGoodBounds i.what) items (item ∷ []) kept.bounds
+          (All-cons (λ (i : DirectiveLine). HasGoodBounds i.what) item [] bounds (All-nil (λ (i : DirectiveLine). HasGoodBounds i.what))));
       default = kept.default;
-      counted = ap (λ (is : List Item). count_by is_path is) added ∙ all;
+      counted = ap (λ (is : List DirectiveLine). count_by is_path is) added ∙ all;
       few = omega (arith, few);
     }
 
 -- what was said, with one item more
-pub item_told : (area default : Option ℕ) (items after : List Item) (item : Item) (told : Told) →
+pub line_told : (area default : Option ℕ) (items after : List DirectiveLine) (item : DirectiveLine) (told : Told) →
     record { area = area; default_cost = default; items = items } ≡ told → after ≡ items ++ item ∷ [] →
     record { area = area; default_cost = default; items = after } ≡ record told { items = told.items ++ item ∷ [] }
-item_told area default items after item told view added =
-    ap (λ (is : List Item). told_of area default is) added
+line_told area default items after item told view added =
+    ap (λ (is : List DirectiveLine). told_of area default is) added
     ∙ ap (λ (t : Told). told_of t.area t.default_cost (t.items ++ item ∷ [])) view

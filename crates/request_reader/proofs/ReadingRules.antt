@@ -9,7 +9,7 @@ use Rattle.request_reader.specs.declared.Directive.TheVariants.{Fix, Symmetric, 
 use Rattle.request_reader.specs.declared.fault.RequestFault.TheVariants.{BadBounds}
 use Rattle.request_reader.specs.declared.reading.statement.Statement.TheVariants.{DefaultCost, Ask}
 use Rattle.request_reader.specs.WrittenRoutes.{Route}
-use Rattle.request_reader.specs.declared.Part.{Part}
+use Rattle.request_reader.specs.declared.Excluded.{Excluded}
 use Rattle.cost_base.specs.Lists.{same_bytes}
 use Rattle.text_lines.specs.Numbers.{number, area}
 use Rattle.request_reader.specs.Routes.{route_of}
@@ -18,7 +18,7 @@ use Rattle.request_reader.specs.ReadingSteps.{KeepsRules}
 
 -- bounds from 1 on that don't cross
 abbrev KeepBounds : Result Bounds RequestFault → Type 0
-KeepBounds (Ok b) = (1 ≤ b.lowest) × (b.lowest ≤ b.highest)
+KeepBounds (Ok b) = (1 ≤ b.low) × (b.low ≤ b.high)
 KeepBounds (Err fault) = Unit {0}
 
 either : (b : Bool) (s t : Statement) → KeepsRules s → KeepsRules t → KeepsRules (cond b s t)
@@ -31,7 +31,7 @@ bounds_keep (Some lo) None = tt
 bounds_keep (Some lo) (Some hi) = by_test (nat_le 1 lo) (nat_le lo hi) (nat_le hi 65535) (leb-true 1 lo) (leb-true lo hi)
   where
     by_test : (a b c : Bool) → (a ≡ true → 1 ≤ lo) → (b ≡ true → lo ≤ hi) →
-        KeepBounds (cond (a && b && c) (Ok (record { lowest = lo; highest = hi })) (Err BadBounds))
+        KeepBounds (cond (a && b && c) (Ok (record { low = lo; high = hi })) (Err BadBounds))
     by_test true true true least ordered = (least refl, ordered refl)
     by_test true true false least ordered = tt
     by_test true false c least ordered = tt
@@ -95,7 +95,7 @@ path_keeps : (ws : List (List ℕ)) → KeepsRules (path_line ws)
 path_keeps [] = tt
 path_keeps (word ∷ words) = said_keeps (route_of (word ∷ to_without words)) (excluded_parts (behind_without words))
   where
-    said_keeps : (route : Option Route) (parts : Option (List Part)) → KeepsRules (path_said route parts)
+    said_keeps : (route : Option Route) (parts : Option (List Excluded)) → KeepsRules (path_said route parts)
     said_keeps None parts = tt
     said_keeps (Some route) None = tt
     said_keeps (Some route) (Some parts) = tt

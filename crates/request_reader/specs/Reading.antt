@@ -5,7 +5,7 @@ use Rattle.cost_base.specs.Lists.{first_of}
 use Rattle.text_lines.specs.Lines.{lines}
 use Rattle.text_lines.specs.LineFaults.{FaultyLine, fault_at}
 use Rattle.text_lines.specs.Statements.{SaidLine, TextRules, statements, text_faults}
-use Rattle.request_reader.specs.declared.Item.{Item}
+use Rattle.request_reader.specs.declared.DirectiveLine.{DirectiveLine}
 use Rattle.request_reader.specs.declared.fault.RequestFault.{RequestFault}
 use Rattle.request_reader.specs.declared.fault.RequestFault.TheVariants.{BadRequestLine, TooManyPaths}
 use Rattle.request_reader.specs.declared.reading.statement.Statement.{Statement}
@@ -24,25 +24,26 @@ default_cost_in (DefaultCost n) = Some n
 default_cost_in _ = None
 
 -- what the line of number n asks for, if it is neither an area nor a default cost
-abbrev pub item_in : ℕ → Statement → Option Item
-item_in n (Ask directive) = Some (record { line = n; what = directive })
-item_in n _ = None
+abbrev pub line_in : ℕ → Statement → Option DirectiveLine
+line_in n (Ask directive) = Some (record { line = n; what = directive })
+line_in n _ = None
 
 -- what some statements say together: the first area, the first default cost, and what they ask for
 pub record Told : Type 0 where
   pub area : Option ℕ
   pub default_cost : Option ℕ
-  pub items : List Item
+  pub items : List DirectiveLine
 
 -- what these statements say together
 abbrev pub told_by : List SaidLine → Told
 told_by before = record {
   area = first_of (filter_map (λ s. area_in (request_statement_of s.words)) before);
   default_cost = first_of (filter_map (λ s. default_cost_in (request_statement_of s.words)) before);
-  items = filter_map (λ s. item_in s.line (request_statement_of s.words)) before;
+  items = filter_map (λ s. line_in s.line (request_statement_of s.words)) before;
 }
 
--- the fault of a statement behind those that say these things: a second area or default cost, a path too many, or its own
+-- the fault of a statement behind those that say these things: a second area or default cost, a path too many, or its
+-- own
 abbrev pub fault_said : Told → Statement → Option RequestFault
 fault_said told (Area a) = if is_some told.area then Some BadRequestLine else None
 fault_said told (DefaultCost n) = if is_some told.default_cost then Some BadRequestLine else None

@@ -3,8 +3,8 @@ use Rattle.std.specs.Prelude.{ℕ, List, [], ◌∷◌, ◌==◌, ◌&&◌, nat_
 use Rattle.cost_base.specs.Lists.{same_bytes}
 use Rattle.text_lines.specs.Numbers.{number, number_within, area}
 use Rattle.text_lines.specs.WordLists.{all_said}
-use Rattle.request_reader.specs.declared.Part.{Part}
-use Rattle.request_reader.specs.declared.Part.TheVariants.{Router, Interface}
+use Rattle.request_reader.specs.declared.Excluded.{Excluded}
+use Rattle.request_reader.specs.declared.Excluded.TheVariants.{Router, Interface}
 use Rattle.request_reader.specs.declared.Directive.TheVariants.{FreeAll, Free, Fix, Path, SymmetricAll, Symmetric}
 use Rattle.request_reader.specs.declared.fault.RequestFault.{RequestFault}
 use Rattle.request_reader.specs.declared.fault.RequestFault.TheVariants.{BadRequestLine, BadBounds}
@@ -23,7 +23,7 @@ abbrev pub area_line_by : Option ℕ → Statement
 area_line_by None = bad_request_line
 area_line_by (Some a) = Area a
 
--- `area X`
+-- an `area X` line, by the words behind the first
 abbrev pub area_line : List (List ℕ) → Statement
 area_line (word ∷ []) = area_line_by (area word)
 area_line _ = bad_request_line
@@ -44,7 +44,7 @@ bound word = number_within 9 999999999 word
 
 -- bounds of costs, where 1 ≤ LO ≤ HI ≤ 65535; where a word is no number the line is refused as a whole
 abbrev pub bounds_of : Option ℕ → Option ℕ → Result Bounds RequestFault
-bounds_of (Some lo) (Some hi) = if nat_le 1 lo && nat_le lo hi && nat_le hi 65535 then Ok (record { lowest = lo; highest = hi }) else Err BadBounds
+bounds_of (Some lo) (Some hi) = if nat_le 1 lo && nat_le lo hi && nat_le hi 65535 then Ok (record { low = lo; high = hi }) else Err BadBounds
 bounds_of _ _ = Err BadRequestLine
 
 -- LO and HI: numbers, of which 1 ≤ LO ≤ HI ≤ 65535
@@ -53,12 +53,12 @@ bounds_said lo hi = bounds_of (bound lo) (bound hi)
 
 -- a `free all` line, by its bounds
 abbrev pub free_all : Result Bounds RequestFault → Statement
-free_all (Ok b) = Ask (FreeAll b.lowest b.highest)
+free_all (Ok b) = Ask (FreeAll b.low b.high)
 free_all (Err fault) = Refused fault
 
 -- a `free` line of one interface, by its bounds
 abbrev pub free_one : List ℕ → List ℕ → Result Bounds RequestFault → Statement
-free_one router interface (Ok b) = Ask (Free router interface b.lowest b.highest)
+free_one router interface (Ok b) = Ask (Free router interface b.low b.high)
 free_one router interface (Err fault) = Refused fault
 
 -- a word R has no `:`
@@ -71,7 +71,7 @@ free_line (all ∷ lo ∷ hi ∷ []) = if same_bytes all (codes "all") then free
 free_line (router ∷ interface ∷ lo ∷ hi ∷ []) = if is_router_word router then free_one router interface (bounds_said lo hi) else bad_request_line
 free_line _ = bad_request_line
 
--- `fix R IF`
+-- a `fix R IF` line, by the words behind the first
 abbrev pub fix_line : List (List ℕ) → Statement
 fix_line (router ∷ interface ∷ []) = if is_router_word router then Ask (Fix router interface) else bad_request_line
 fix_line _ = bad_request_line
@@ -97,35 +97,36 @@ behind_without [] = None
 behind_without (word ∷ words) = if is_without word then Some words else behind_without words
 
 -- an interface as a part to be excluded
-abbrev pub part_of_hop : Option (List ℕ × List ℕ) → Option Part
+abbrev pub part_of_hop : Option (List ℕ × List ℕ) → Option Excluded
 part_of_hop None = None
 part_of_hop (Some hop) = Some (Interface hop.0 hop.1)
 
 -- a word R or R:IF
-abbrev pub part_of : List ℕ → Option Part
+abbrev pub part_of : List ℕ → Option Excluded
 part_of word = if is_router_word word then Some (Router word) else part_of_hop (hop_of word)
 
 -- the parts that words name
-abbrev pub parts_by_words : List (List ℕ) → Option (List Part)
+abbrev pub parts_by_words : List (List ℕ) → Option (List Excluded)
 parts_by_words words = all_said part_of words
 
 -- what a path excludes: nothing without the word `without`, and at least one part behind it
-abbrev pub excluded_parts : Option (List (List ℕ)) → Option (List Part)
+abbrev pub excluded_parts : Option (List (List ℕ)) → Option (List Excluded)
 excluded_parts None = Some []
 excluded_parts (Some []) = None
 excluded_parts (Some (word ∷ words)) = parts_by_words (word ∷ words)
 
 -- a `path` line, by its route and the parts that it excludes
-abbrev pub path_said : Option Route → Option (List Part) → Statement
+abbrev pub path_said : Option Route → Option (List Excluded) → Statement
 path_said (Some route) (Some parts) = Ask (Path route parts)
 path_said _ _ = bad_request_line
 
--- `path R:IF R:IF .. R` or `path R:IF R:IF .. R without W ..`; the word `without` is looked for from the line's third word on
+-- `path R:IF R:IF .. R` or `path R:IF R:IF .. R without W ..`; the word `without` is looked for from the line's third
+-- word on
 abbrev pub path_line : List (List ℕ) → Statement
 path_line [] = bad_request_line
 path_line (word ∷ words) = path_said (route_of (word ∷ to_without words)) (excluded_parts (behind_without words))
 
--- what the words behind the first one say
+-- what a line of a request file says, by its first word and those behind it
 abbrev pub request_statement_by : List ℕ → List (List ℕ) → Statement
 request_statement_by word words =
     if same_bytes word (codes "path") then path_line words
@@ -136,7 +137,7 @@ request_statement_by word words =
     else if same_bytes word (codes "default-cost") then default_cost_line words
     else bad_request_line
 
--- what a statement of these words says
+-- what a line of a request file says, by its words
 abbrev pub request_statement_of : List (List ℕ) → Statement
 request_statement_of [] = bad_request_line
 request_statement_of (word ∷ words) = request_statement_by word words

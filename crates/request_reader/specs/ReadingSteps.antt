@@ -1,6 +1,6 @@
 -- What the reader of a request file keeps while it takes the statements.
 use Rattle.std.specs.Prelude.{◌≡◌, ℕ, ◌≤◌, List, [], ◌∷◌, ◌++◌, Option, Some, IfSome, All, count_by, ◌<◌}
-use Rattle.request_reader.specs.declared.Item.{Item}
+use Rattle.request_reader.specs.declared.DirectiveLine.{DirectiveLine}
 use Rattle.request_reader.specs.declared.reading.statement.Statement.{Statement}
 use Rattle.request_reader.specs.declared.reading.statement.Statement.TheVariants.{Area, DefaultCost, Ask, Refused}
 use Rattle.request_reader.specs.Asked.{HasGoodBounds, is_path}
@@ -20,7 +20,7 @@ KeepsRules (DefaultCost cost) = 0 < cost
 KeepsRules _ = Unit {0}
 
 -- items and a default cost keep the rules of request files, and there are so many paths
-pub record KeepsTold (default_cost : Option ℕ) (paths : ℕ) (items : List Item) : Type 0 where
+pub record KeepsTold (default_cost : Option ℕ) (paths : ℕ) (items : List DirectiveLine) : Type 0 where
   pub bounds : All (λ item. HasGoodBounds item.what) items
   pub default : IfSome default_cost (λ cost. 0 < cost)
   pub counted : count_by is_path items ≡ paths

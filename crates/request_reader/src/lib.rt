@@ -8,12 +8,12 @@ mod reading;
 use cost_base::{Listed, Name};
 pub use fault::RequestFault;
 pub use hops::Hops;
-pub use reading::read_requests;
+pub use reading::read_request_file;
 use std::marker::Model;
 
-/// What a wanted path goes without.
+/// What a wanted path excludes.
 #[derive(Drop)]
-pub enum Part {
+pub enum Excluded {
     /// The router of a name: each edge into or out of it.
     Router(Name),
     /// The link of an interface, in both directions: the router's name, and the interface's.
@@ -29,8 +29,8 @@ pub enum Directive {
     Free(Name, Name, u16, u16),
     /// An interface becomes fixed: its router, and its name.
     Fix(Name, Name),
-    /// A path is wanted: its hops, and what it goes without.
-    Path(Hops, Listed<Part>),
+    /// A path is wanted: its hops, and what it excludes.
+    Path(Hops, Listed<Excluded>),
     /// The two ends of each point-to-point link have one cost where both are free.
     SymmetricAll,
     /// The two ends of the link of an interface have one cost where both are free: its router, and its name.
@@ -39,7 +39,7 @@ pub enum Directive {
 
 /// A line of a request file that asks for something.
 #[derive(Drop)]
-pub struct Item {
+pub struct DirectiveLine {
     /// The line's number, from 1.
     pub line: u32,
     /// What the line asks for.
@@ -55,7 +55,7 @@ pub struct RequestFile {
     /// The present cost of an interface that has none, where one is given.
     pub default_cost: Option<u16>,
     /// What the lines ask for, in their order.
-    pub items: Listed<Item>,
+    pub items: Listed<DirectiveLine>,
 }
 
 impl Model for RequestFile {

@@ -25,7 +25,7 @@ use text_lines::{TextKind, read_statements};
 ///   `free` line cross or aren't from 1 to 65535; `TooManyPaths` at the 10,001st path. A missing header or area is
 ///   refused as `BadRequestLine` behind the last line.
 /// - `OutOfMemory` where there is no memory.
-pub fn read_requests(alloc: Global, bytes: &[u8]) -> Result<RequestFile, Refusal<RequestFault>>
+pub fn read_request_file(alloc: Global, bytes: &[u8]) -> Result<RequestFile, Refusal<RequestFault>>
     requires few { length bytes.now < 2 ^ 32 - 1 }
     ensures made { IfOk result (λ r. (request_fault bytes.now ≡ None) × (r ≡ asked_by bytes.now)) }
     ensures refused { IfErr result (TellsFault (request_fault bytes.now)) }

@@ -10,8 +10,7 @@ use Rattle.design_problem.specs.declared.problem.Request.{Request}
 use Rattle.design_problem.specs.Problems.{no_request, request_at, request_ends}
 use Rattle.spf_ties.specs.Distances.{Findings}
 use Rattle.rival_separation.specs.Askers.{Asking, IsAskerFor, IsShared, RequestLeads}
-use Rattle.rival_separation.specs.declared.asker.Shared.{Shared}
-use Rattle.rival_separation.specs.declared.asker.Survey.{Survey}
+use Rattle.rival_separation.specs.declared.shared.Shared.{Shared}
 use Rattle.rival_separation.proofs.RivalLemmas.{found_kept}
 
 -- the numbers below n, and n
@@ -49,13 +48,9 @@ asker_kept g requests old new same is = subst (IsAskerFor g requests) (sym same)
     (record { room = record { vertices = is.room.vertices; edges = is.room.edges }; known = is.known; each = is.each })
 
 -- a room of which the path alone changed still has the distances
-pub shared_kept : (s : Survey) (old new : Findings) (shared : Shared) →
-    new ≡ record old { path = new.path } → IsShared s old shared → IsShared s new shared
-shared_kept s old new shared same is = record {
-  known = is.known;
-  found = found_kept s.graph.now s.point.now (request_ends (request_at s.requests.now shared.request)) shared.limit old
-      new.path new same is.found;
-}
+pub shared_kept : (g : Area) (p : Point) (old new : Findings) (shared : Shared) →
+    new ≡ record old { path = new.path } → IsShared g p old shared → IsShared g p new shared
+shared_kept g p old new shared same is = found_kept g p (request_ends shared.request.now) shared.limit old new.path new same is
 
 -- so each path leads where that of each number in the order does
 pub order_leads : (g : Area) (p : Point) (requests : List Request) (order : List ℕ) (place : ℕ) →

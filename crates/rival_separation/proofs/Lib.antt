@@ -1,3 +1,3 @@
 pub mod AskerLemmas
-pub mod OfferLemmas
+pub mod DeviationLemmas
 pub mod RivalLemmas

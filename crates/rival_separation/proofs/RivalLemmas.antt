@@ -1,4 +1,4 @@
--- Offers, deviations and the way along tight edges.
+-- Deviations from a path, and the way along tight edges.
 use Rattle.std.proofs.Common.{◌≡◌, ◌≢◌, ℕ, zero, suc, ◌+◌, ◌*◌, ◌^◌, ◌<◌, ◌≤◌, refl, sym, ◌∙◌, ap, subst, List, [], ◌∷◌, ◌++◌, All, length, get_or, take, Option, Some, None, true, false, inl, inr, arith, append-nil, append_assoc, length-append}
 use Rattle.std.proofs.Math.Seq.{take-append_seam}
 use Rattle.std.proofs.lemmas.Bool.{cases_lt, eqb-true}
@@ -15,7 +15,7 @@ use Rattle.area_graph.proofs.Bounds.{cost_below, price-le}
 use Rattle.spf_ties.specs.Distances.{AreTight, Findings, IsLeastOfPaths, IsLeastBelow, adds_up, distance_at, is_tight}
 use Rattle.design_problem.proofs.PathBounds.{simple-short}
 use Rattle.rival_separation.specs.Rivals.{Completes, HasWay, IsCheapestRival, IsFollowedByLeast, HasDistancesBelow, ends_from, with_edge}
-use Rattle.rival_separation.specs.Offers.{Offers}
+use Rattle.rival_separation.specs.Deviations.{DeviatesFromPath}
 use Rattle.std.proofs.lemmas.Option.{same_Some}
 
 -- the element at which two lists are joined
@@ -68,21 +68,21 @@ onward_below g p ends limit room e price rest graph metrics fits found known pri
     let scale = fits.scale in
     omega arith
 
--- the offer that a deviation takes
-record Offered (g : Area) (p : Point) (excluded : List ℕ) (room : Findings) (path : List ℕ) (most : ℕ) : Type 0 where
+-- the deviation by which a walk leaves the path
+record Deviated (g : Area) (p : Point) (excluded : List ℕ) (room : Findings) (path : List ℕ) (most : ℕ) : Type 0 where
   place : ℕ
   edge : ℕ
   total : ℕ
-  offer : Offers g p excluded room path place edge total
+  deviation : DeviatesFromPath g p excluded room path place edge total
   within : total ≤ most
 
-offered : (g : Area) (p : Point) (ends : Ends) (limit : ℕ) (room : Findings) → FitsGraph g →
+deviated : (g : Area) (p : Point) (ends : Ends) (limit : ℕ) (room : Findings) → FitsGraph g →
     HasDistancesBelow g p ends limit room → ends.end < length g.vertices → (u : ℕ) (before path walk : List ℕ) →
     Joins g u path ends.end → Deviates g ends.excluded ends.end u path walk → cost g p walk < limit →
-    Offered g p ends.excluded room (before ++ path) (cost g p before + cost g p walk)
-offered g p ends limit room graph found end u before [] walk joins deviates near = absurd deviates
-offered g p ends limit room graph found end u before (n ∷ path) [] joins deviates near = absurd deviates
-offered g p ends limit room graph found end u before (n ∷ path) (e ∷ rest) joins deviates near =
+    Deviated g p ends.excluded room (before ++ path) (cost g p before + cost g p walk)
+deviated g p ends limit room graph found end u before [] walk joins deviates near = absurd deviates
+deviated g p ends limit room graph found end u before (n ∷ path) [] joins deviates near = absurd deviates
+deviated g p ends limit room graph found end u before (n ∷ path) (e ∷ rest) joins deviates near =
     elim deviates [
       | inl leaves ↦
           let edge : FitsEdge g (edge_at g e) = graph.edges e no_edge leaves.1.known in
@@ -102,21 +102,20 @@ offered g p ends limit room graph found end u before (n ∷ path) (e ∷ rest) j
             place = length before;
             edge = e;
             total = cost g p before + (price_at p (edge_at g e).price + some.least);
-            offer = record {
-              rest = some.least;
+            deviation = record {
+              rest = price_at p (edge_at g e).price + some.least;
               within = length_seam before n path;
               known = leaves.1.known;
               from = leaves.1.from_u ∙ sym joins.1 ∙ ap (λ (i : ℕ). (edge_at g i).from) (sym (get_seam before n path));
               other = λ same. leaves.0 (same ∙ get_seam before n path);
-              left = leaves.1.there;
-              distance = some.is;
+              onward = record { rest = some.least; left = leaves.1.there; distance = some.is; sums = refl };
               sums = ap (λ (es : List ℕ). cost g p es + (price_at p (edge_at g e).price + some.least)) (sym (take-append_seam before (n ∷ path)));
             };
             within = let most = some.within in omega arith;
           }
       | inr along ↦
           let longer = sum_by-cons (λ i. price_at p (edge_at g i).price) e rest in
-          let later = offered g p ends limit room graph found end (edge_at g n).to (before ++ n ∷ []) path rest joins.2 along.1 (omega arith) in
+          let later = deviated g p ends limit room graph found end (edge_at g n).to (before ++ n ∷ []) path rest joins.2 along.1 (omega arith) in
           let split = sum_by-append (λ i. price_at p (edge_at g i).price) before (n ∷ []) in
           let one = sum_by-cons (λ i. price_at p (edge_at g i).price) n [] in
           let same = ap (λ (i : ℕ). price_at p (edge_at g i).price) along.0 in
@@ -124,12 +123,13 @@ offered g p ends limit room graph found end u before (n ∷ path) (e ∷ rest) j
             place = later.place;
             edge = later.edge;
             total = later.total;
-            offer = subst (λ (es : List ℕ). Offers g p ends.excluded room es later.place later.edge later.total) (append_assoc before (n ∷ []) path) later.offer;
+            deviation = subst (λ (es : List ℕ). DeviatesFromPath g p ends.excluded room es later.place later.edge later.total)
+                (append_assoc before (n ∷ []) path) later.deviation;
             within = let most = later.within in omega arith;
           }
     ]
 
--- a walk that takes an offer deviates
+-- a walk that leaves the path by a deviation is one that deviates
 deviates_at : (g : Area) (excluded : List ℕ) (t u : ℕ) (path : List ℕ) (place e : ℕ) (rest : List ℕ) → Joins g u path t →
     place < length path → e < length g.edges → (edge_at g e).from ≡ (edge_at g (get_or path place 0)).from →
     e ≢ get_or path place 0 → Lacks excluded e → Joins g (edge_at g e).to rest t →
@@ -141,16 +141,16 @@ deviates_at g excluded t u (n ∷ path) zero e rest joins within known from othe
 deviates_at g excluded t u (n ∷ path) (suc place) e rest joins within known from other left rest_joins once kept =
     inr (refl, deviates_at g excluded t (edge_at g n).to path place e rest joins.2 (omega arith) known from other left rest_joins once kept)
 
--- no deviation costs less than every offer, where that is within the limit
+-- no walk that leaves the path costs less than every deviation, where that is within the limit
 deviation_above : (g : Area) (p : Point) (ends : Ends) (limit : ℕ) (room : Findings) (wanted : List ℕ) (most : ℕ) →
     FitsGraph g → HasDistancesBelow g p ends limit room → IsPathOf g ends wanted → most ≤ limit →
-    ((place e total : ℕ) → Offers g p ends.excluded room wanted place e total → most ≤ total) → (other : List ℕ) →
+    ((place e total : ℕ) → DeviatesFromPath g p ends.excluded room wanted place e total → most ≤ total) → (other : List ℕ) →
     Deviates g ends.excluded ends.end ends.start wanted other → most ≤ cost g p other
 deviation_above g p ends limit room wanted most graph found path far above other deviates =
     elim (cases_lt (cost g p other) limit) [
       | inl near ↦
-          let taken = offered g p ends limit room graph found path.simple.end ends.start [] wanted other path.simple.joins deviates near in
-          let least = above taken.place taken.edge taken.total taken.offer in
+          let taken = deviated g p ends limit room graph found path.simple.end ends.start [] wanted other path.simple.joins deviates near in
+          let least = above taken.place taken.edge taken.total taken.deviation in
           let within = taken.within in
           omega arith
       | inr beyond ↦ omega arith
@@ -159,36 +159,37 @@ deviation_above g p ends limit room wanted most graph found path far above other
 -- so no rival does
 rival_above : (g : Area) (p : Point) (ends : Ends) (limit : ℕ) (room : Findings) (wanted : List ℕ) (most : ℕ) →
     FitsGraph g → HasDistancesBelow g p ends limit room → IsPathOf g ends wanted → most ≤ limit →
-    ((place e total : ℕ) → Offers g p ends.excluded room wanted place e total → most ≤ total) → (other : List ℕ) →
+    ((place e total : ℕ) → DeviatesFromPath g p ends.excluded room wanted place e total → most ≤ total) → (other : List ℕ) →
     IsPathOf g ends other → other ≢ wanted → most ≤ cost g p other
 rival_above g p ends limit room wanted most graph found path far above other is_path differs =
     deviation_above g p ends limit room wanted most graph found path far above other
     (rival_deviates g ends.excluded ends.end ends.start wanted other path.simple.joins path.simple.none_twice
     is_path.simple.joins is_path.simple.none_twice is_path.kept differs)
 
--- where every offer costs at least the path and the scale, the path leads by the scale
+-- where every deviation costs at least the path and the scale, the path leads by the scale
 pub leads_by : (g : Area) (p : Point) (ends : Ends) (limit : ℕ) (room : Findings) (wanted : List ℕ) → FitsGraph g →
     HasDistancesBelow g p ends limit room → IsPathOf g ends wanted → cost g p wanted + p.scale ≤ limit →
-    ((place e total : ℕ) → Offers g p ends.excluded room wanted place e total → cost g p wanted + p.scale ≤ total) →
+    ((place e total : ℕ) → DeviatesFromPath g p ends.excluded room wanted place e total → cost g p wanted + p.scale ≤ total) →
     LeadsBy p.scale g p ends wanted
 leads_by g p ends limit room wanted graph found path far above =
     λ other is_path differs. rival_above g p ends limit room wanted (cost g p wanted + p.scale) graph found path far
     above other is_path differs
 
--- the best offer, where it is cheap, makes with any path of least cost a cheapest rival
+-- the best deviation, where it is cheap, makes with any path of least cost a cheapest rival
 pub cheapest_by : (g : Area) (p : Point) (ends : Ends) (limit : ℕ) (room : Findings) (wanted : List ℕ)
     (place e total : ℕ) → FitsGraph g → FitsPoint g p → HasDistancesBelow g p ends limit room → IsPathOf g ends wanted →
-    (offer : Offers g p ends.excluded room wanted place e total) →
-    ((k i other : ℕ) → Offers g p ends.excluded room wanted k i other → total ≤ other) → total < cost g p wanted + p.scale →
+    (deviation : DeviatesFromPath g p ends.excluded room wanted place e total) →
+    ((k i other : ℕ) → DeviatesFromPath g p ends.excluded room wanted k i other → total ≤ other) → total < cost g p wanted + p.scale →
     cost g p wanted + p.scale ≤ limit → (rest : List ℕ) → IsPathOf g (ends_from ends (edge_at g e).to) rest →
-    cost g p rest ≡ offer.rest → IsCheapestRival g p ends wanted (take place wanted ++ e ∷ rest)
-cheapest_by g p ends limit room wanted place e total graph fits found path offer best cheap far rest is_path costs =
+    cost g p rest ≡ deviation.onward.rest → IsCheapestRival g p ends wanted (take place wanted ++ e ∷ rest)
+cheapest_by g p ends limit room wanted place e total graph fits found path deviation best cheap far rest is_path costs =
     let walk : List ℕ = take place wanted ++ e ∷ rest in
-    let deviates = deviates_at g ends.excluded ends.end ends.start wanted place e rest path.simple.joins offer.within
-    offer.known offer.from offer.other offer.left is_path.simple.joins is_path.simple.none_twice is_path.kept in
+    let deviates = deviates_at g ends.excluded ends.end ends.start wanted place e rest path.simple.joins deviation.within
+    deviation.known deviation.from deviation.other deviation.onward.left is_path.simple.joins is_path.simple.none_twice is_path.kept in
     let split = sum_by-append (λ i. price_at p (edge_at g i).price) (take place wanted) (e ∷ rest) in
     let longer = sum_by-cons (λ i. price_at p (edge_at g i).price) e rest in
-    let sums = offer.sums in
+    let sums = deviation.sums in
+    let onward = deviation.onward.sums in
     let whole : cost g p (take place wanted ++ e ∷ rest) ≡ total = omega arith in
     let within : total ≤ limit = omega arith in
     let least : (other : List ℕ) → Deviates g ends.excluded ends.end ends.start wanted other → cost g p (take place wanted ++ e ∷ rest) ≤ cost g p other =
@@ -197,63 +198,63 @@ cheapest_by g p ends limit room wanted place e total graph fits found path offer
     fits path.simple.joins path.simple.none_twice path.kept deviates (omega (arith, whole, cheap)) least in
     let joins = deviation_joins g ends.excluded ends.end ends.start wanted (take place wanted ++ e ∷ rest) path.simple.joins path.kept deviates in
     record {
-      rival = record {
-        path = record { simple = record { start = path.simple.start; end = path.simple.end; joins = joins.0; none_twice = once }; kept = joins.1 };
-        other = deviation_differs g ends.excluded ends.end ends.start wanted (take place wanted ++ e ∷ rest) deviates;
-      };
+      rival = (
+        record { simple = record { start = path.simple.start; end = path.simple.end; joins = joins.0; none_twice = once }; kept = joins.1 },
+        deviation_differs g ends.excluded ends.end ends.start wanted (take place wanted ++ e ∷ rest) deviates,
+      );
       cheap = omega (arith, whole, cheap);
       none_less = λ other rival. (let above =
-          rival_above g p ends limit room wanted total graph found path within best other rival.path rival.other in
+          rival_above g p ends limit room wanted total graph found path within best other rival.0 rival.1 in
           omega (arith, whole));
     }
 
--- so there is a way on from the offer's edge, behind the front of the path and that edge
+-- so there is a way on from the deviation's edge, behind the front of the path and that edge
 pub way_from : (g : Area) (p : Point) (ends : Ends) (limit : ℕ) (room : Findings) (wanted front : List ℕ)
     (place e total : ℕ) → FitsGraph g → FitsPoint g p → HasDistancesBelow g p ends limit room → IsPathOf g ends wanted →
-    (offer : Offers g p ends.excluded room wanted place e total) →
-    ((k i other : ℕ) → Offers g p ends.excluded room wanted k i other → total ≤ other) → total < cost g p wanted + p.scale →
+    (deviation : DeviatesFromPath g p ends.excluded room wanted place e total) →
+    ((k i other : ℕ) → DeviatesFromPath g p ends.excluded room wanted k i other → total ≤ other) → total < cost g p wanted + p.scale →
     cost g p wanted + p.scale ≤ limit → front ≡ take place wanted ++ e ∷ [] →
     HasWay g p ends (record room { path = front }) (edge_at g e).to
-way_from g p ends limit room wanted front place e total graph fits found path offer best cheap far is_front = record {
+way_from g p ends limit room wanted front place e total graph fits found path deviation best cheap far is_front = record {
   known = edge.to;
-  least = offer.rest;
-  distance = offer.distance;
+  least = deviation.onward.rest;
+  distance = deviation.onward.distance;
   short = λ rest is_path costs.
-      let whole = cheapest_by g p ends limit room wanted place e total graph fits found path offer best cheap far rest is_path costs in
-      let short = simple-short g ends.start (take place wanted ++ e ∷ rest) ends.end graph whole.rival.path.simple in
+      let whole = cheapest_by g p ends limit room wanted place e total graph fits found path deviation best cheap far rest is_path costs in
+      let short = simple-short g ends.start (take place wanted ++ e ∷ rest) ends.end graph whole.rival.0.simple in
       let count = length-append (take place wanted) (e ∷ rest) in
       let front_count = ap length is_front ∙ length-append (take place wanted) (e ∷ []) in
       omega arith;
 }
   where
     edge : FitsEdge g (edge_at g e)
-    edge = graph.edges e no_edge offer.known
+    edge = graph.edges e no_edge deviation.known
 
 -- with the way that was followed the front is a cheapest rival
 pub followed_cheapest : (g : Area) (p : Point) (ends : Ends) (limit : ℕ) (room : Findings) (wanted front walk : List ℕ)
     (place e total : ℕ) → FitsGraph g → FitsPoint g p → HasDistancesBelow g p ends limit room → IsPathOf g ends wanted →
-    Offers g p ends.excluded room wanted place e total →
-    ((k i other : ℕ) → Offers g p ends.excluded room wanted k i other → total ≤ other) → total < cost g p wanted + p.scale →
+    DeviatesFromPath g p ends.excluded room wanted place e total →
+    ((k i other : ℕ) → DeviatesFromPath g p ends.excluded room wanted k i other → total ≤ other) → total < cost g p wanted + p.scale →
     cost g p wanted + p.scale ≤ limit → front ≡ take place wanted ++ e ∷ [] →
     IsFollowedByLeast g p ends (record room { path = front }) (edge_at g e).to walk → IsCheapestRival g p ends wanted walk
-followed_cheapest g p ends limit room wanted front walk place e total graph fits found path offer best cheap far is_front followed =
-    let costs = same_Some (cost g p followed.rest) offer.rest (sym followed.costs ∙ offer.distance) in
-    let whole = cheapest_by g p ends limit room wanted place e total graph fits found path offer best cheap far followed.rest followed.path costs in
+followed_cheapest g p ends limit room wanted front walk place e total graph fits found path deviation best cheap far is_front followed =
+    let costs = same_Some (cost g p followed.rest) deviation.onward.rest (sym followed.costs ∙ deviation.onward.distance) in
+    let whole = cheapest_by g p ends limit room wanted place e total graph fits found path deviation best cheap far followed.rest followed.path costs in
     let same = followed.same ∙ ap (λ (es : List ℕ). es ++ followed.rest) is_front ∙ append_assoc (take place wanted) (e ∷ []) followed.rest in
     subst (λ (es : List ℕ). IsCheapestRival g p ends wanted es) (sym same) whole
 
--- a cheap offer that is the best shows that the path doesn't lead by the scale
-pub beaten_by : (g : Area) (p : Point) (ends : Ends) (limit : ℕ) (room : Findings) (wanted : List ℕ)
+-- a cheap deviation that is the best shows that the path doesn't lead by the scale
+pub leads_not : (g : Area) (p : Point) (ends : Ends) (limit : ℕ) (room : Findings) (wanted : List ℕ)
     (place e total : ℕ) → FitsGraph g → FitsPoint g p → HasDistancesBelow g p ends limit room → IsPathOf g ends wanted →
-    (offer : Offers g p ends.excluded room wanted place e total) →
-    ((k i other : ℕ) → Offers g p ends.excluded room wanted k i other → total ≤ other) → total < cost g p wanted + p.scale →
+    (deviation : DeviatesFromPath g p ends.excluded room wanted place e total) →
+    ((k i other : ℕ) → DeviatesFromPath g p ends.excluded room wanted k i other → total ≤ other) → total < cost g p wanted + p.scale →
     cost g p wanted + p.scale ≤ limit → LeadsBy p.scale g p ends wanted → ⊥
-beaten_by g p ends limit room wanted place e total graph fits found path offer best cheap far leads =
-    let edge : FitsEdge g (edge_at g e) = graph.edges e no_edge offer.known in
-    let least = is_least g p (ends_from ends (edge_at g e).to) limit (distance_at room (edge_at g e).to) offer.rest
-    (found.least (edge_at g e).to edge.to) offer.distance in
-    let whole = cheapest_by g p ends limit room wanted place e total graph fits found path offer best cheap far least.path least.is_path least.costs in
-    let above = leads (take place wanted ++ e ∷ least.path) whole.rival.path whole.rival.other in
+leads_not g p ends limit room wanted place e total graph fits found path deviation best cheap far leads =
+    let edge : FitsEdge g (edge_at g e) = graph.edges e no_edge deviation.known in
+    let least = is_least g p (ends_from ends (edge_at g e).to) limit (distance_at room (edge_at g e).to) deviation.onward.rest
+    (found.least (edge_at g e).to edge.to) deviation.onward.distance in
+    let whole = cheapest_by g p ends limit room wanted place e total graph fits found path deviation best cheap far least.path least.is_path least.costs in
+    let above = leads (take place wanted ++ e ∷ least.path) whole.rival.0 whole.rival.1 in
     let below = whole.cheap in
     omega arith
 
@@ -263,7 +264,13 @@ pub found_as : (g : Area) (p : Point) (ends others : Ends) (limit : ℕ) (room :
 found_as g p ends others limit room found same_end same_excluded =
     let same : (record { start = others.start; end = ends.end; excluded = ends.excluded }) ≡ others =
     λ i. record { start = others.start; end = same_end i; excluded = same_excluded i } in
-    subst (λ (x : Ends). HasDistancesBelow g p x limit room) same (record { room_for = found.room_for; marks = found.marks; least = found.least; tight = found.tight })
+    subst (λ (x : Ends). HasDistancesBelow g p x limit room) same (record {
+      room_for = found.room_for;
+      marks = found.marks;
+      least = found.least;
+      tight =
+          found.tight;
+    })
 
 -- numbers that add up
 record Sums (from to : Option ℕ) (price : ℕ) : Type 0 where

@@ -1,5 +1,5 @@
 -- What asks for the rivals of several requests.
-use Rattle.std.specs.Prelude.{◌≡◌, ℕ, ◌+◌, ◌<◌, ◌≤◌, List, length, slice_index, slice_index_or, All, Contains, Option, None, Some}
+use Rattle.std.specs.Prelude.{◌≡◌, ℕ, ◌+◌, ◌<◌, List, length, slice_index, slice_index_or, All, Contains, Option, None, Some}
 use Rattle.area_graph.specs.declared.Point.{Point}
 use Rattle.area_graph.specs.Area.{Area}
 use Rattle.area_graph.specs.Costs.{LeadsBy, cost}
@@ -7,7 +7,7 @@ use Rattle.area_graph.specs.Paths.{IsPathOf}
 use Rattle.design_problem.specs.declared.problem.Request.{Request}
 use Rattle.design_problem.specs.Problems.{request_ends, request_at}
 use Rattle.spf_ties.specs.Distances.{Findings, IsRoomFor}
-use Rattle.rival_separation.specs.declared.asker.Shared.{Shared}
+use Rattle.rival_separation.specs.declared.shared.Shared.{Shared}
 use Rattle.rival_separation.specs.declared.asker.Survey.{Survey}
 use Rattle.rival_separation.specs.Rivals.{HasDistancesBelow, HasDistancesTo, IsCheapestRival}
 
@@ -48,23 +48,21 @@ pub record AreCheapestRivals (g : Area) (p : Point) (requests : List Request) (r
 abbrev pub request_seen : Survey → Asking → ℕ → Request
 request_seen s asker place = request_at s.requests.now (slice_index asker.order place)
 
--- the room has the distances up to what the path of a request is compared with
-abbrev pub CanCompareWith : Survey → Request → Findings → Type 0
-CanCompareWith s r room =
-    HasDistancesTo s.graph.now s.point.now (request_ends r) (lead_at s.graph.now s.point.now r) room
+-- the room has the distances to the end of a request without its excluded edges, up to what its path costs and the
+-- scale
+abbrev pub CanCompareWith : Area → Point → Request → Findings → Type 0
+CanCompareWith g p r room = HasDistancesTo g p (request_ends r) (lead_at g p r) room
 
 -- the room has the distances to the end of a request without its excluded edges, those below a limit
-pub record IsShared (s : Survey) (room : Findings) (shared : Shared) : Type 0 where
-  pub known : shared.request < length s.requests.now
-  pub found : HasDistancesBelow s.graph.now s.point.now (request_ends (request_at s.requests.now shared.request)) shared.limit room
+abbrev pub IsShared : Area → Point → Findings → Shared → Type 0
+IsShared g p room shared = HasDistancesBelow g p (request_ends shared.request.now) shared.limit room
 
 -- the room has the distances to the end of a request, those below a limit, or nothing is known of what it has
-abbrev pub MayShare : Survey → Findings → Option Shared → Type 0
-MayShare s room None = Unit {0}
-MayShare s room (Some shared) = IsShared s room shared
+abbrev pub MayShare : Area → Point → Findings → Option Shared → Type 0
+MayShare g p room None = Unit {0}
+MayShare g p room (Some shared) = IsShared g p room shared
 
 -- the room has the distances up to what the path of a request is compared with, which others may share
-pub record IsReadyToCompare (s : Survey) (room : Findings) (k : ℕ) (shared : Shared) : Type 0 where
-  pub of_request : shared.request ≡ k
-  pub shares : IsShared s room shared
-  pub above : lead_at s.graph.now s.point.now (request_at s.requests.now k) ≤ shared.limit
+pub record IsReadyToCompare (g : Area) (p : Point) (r : Request) (room : Findings) (shared : Shared) : Type 0 where
+  pub shares : IsShared g p room shared
+  pub found : CanCompareWith g p r room

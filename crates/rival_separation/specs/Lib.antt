@@ -1,5 +1,5 @@
 pub mod Rivals
-pub mod Offers
+pub mod Deviations
 pub mod Answers
 pub mod Askers
 pub mod Outlooks

@@ -1,16 +1,12 @@
 -- Rivals of a wanted path: the other simple paths of its request.
-use Rattle.std.specs.Prelude.{◌≡◌, ◌≢◌, ◌↔◌, ℕ, ◌+◌, ◌<◌, ◌≤◌, List, [], ◌∷◌, ◌++◌, length, slice_index_or, Some, true, false}
+use Rattle.std.specs.Prelude.{◌≡◌, ◌↔◌, ℕ, ◌+◌, ◌<◌, ◌≤◌, List, [], ◌∷◌, ◌++◌, length, slice_index_or, Some, true, false}
 use Rattle.area_graph.specs.declared.Point.{Point}
 use Rattle.area_graph.specs.Area.{Area, edge_at}
 use Rattle.area_graph.specs.Paths.{Ends, IsPathOf}
 use Rattle.area_graph.specs.Costs.{cost}
 use Rattle.area_graph.specs.Distances.{AreEdgeMarks}
+use Rattle.design_problem.specs.Rows.{IsRivalBetween}
 use Rattle.spf_ties.specs.Distances.{AreTight, Findings, IsLeastBelow, IsRoomFor, distance_at, is_tight}
-
--- a rival of a wanted path between two ends: another simple path there without the excluded edges
-pub record IsRivalBetween (g : Area) (ends : Ends) (wanted es : List ℕ) : Type 0 where
-  pub path : IsPathOf g ends es
-  pub other : es ≢ wanted
 
 -- a rival that costs less than the wanted path and the scale, and no rival costs less
 pub record IsCheapestRival (g : Area) (p : Point) (ends : Ends) (wanted es : List ℕ) : Type 0 where
@@ -26,7 +22,8 @@ pub record HasDistancesBelow (g : Area) (p : Point) (ends : Ends) (limit : ℕ) 
   pub tight : (v : ℕ) (path : List ℕ) → IsPathOf g (record { start = v; end = ends.end; excluded = ends.excluded }) path →
       cost g p path < limit → (distance_at room v ≡ Some (cost g p path)) ↔ AreTight g p room path
 
--- the room has the distances to the end of a request without its excluded edges, those below a limit of at least so much
+-- the room has the distances to the end of a request without its excluded edges, those below a limit of at least so
+-- much
 pub record HasDistancesTo (g : Area) (p : Point) (ends : Ends) (enough : ℕ) (room : Findings) : Type 0 where
   pub limit : ℕ
   pub above : enough ≤ limit
@@ -54,7 +51,8 @@ pub record IsFollowedByLeast (g : Area) (p : Point) (ends : Ends) (room : Findin
   pub costs : distance_at room v ≡ Some (cost g p rest)
   pub same : walk ≡ room.path ++ rest
 
--- some path leads from the vertex to the end, and with any of least cost the room's path is shorter than the graph has vertices
+-- some path leads from the vertex to the end, and with any of least cost the room's path is shorter than the graph has
+-- vertices
 pub record HasWay (g : Area) (p : Point) (ends : Ends) (room : Findings) (v : ℕ) : Type 0 where
   pub known : v < length g.vertices
   pub least : ℕ

@@ -3,8 +3,8 @@
 ghost use Rattle.std.specs.Prelude.{◌≡◌, ◌+◌, ◌<◌, ◌≤◌, ◌*◌, ◌^◌, ℕ, IfSome, MatchOption, Some, length, slice_index, take};
 ghost use Rattle.area_graph.specs.Area.{edge_at};
 ghost use Rattle.area_graph.specs.Costs.{cost};
-ghost use Rattle.rival_separation.specs.Offers.{IsBetter, IsBetterBy, IsOnward, Offers};
-ghost use Rattle.rival_separation.specs.Outlooks.{FitsOutlook, HasDistances, HasItsPath, IsBestDeviation};
+ghost use Rattle.rival_separation.specs.Deviations.{IsBetter, IsBetterBy, IsOnward, DeviatesFromPath};
+ghost use Rattle.rival_separation.specs.Outlooks.{FitsOutlook, HasDistances, HasItsPath, IsBestDeviationFromPath};
 
 use crate::outlook::Outlook;
 use area_graph::{edge_of, price_of};
@@ -46,7 +46,7 @@ pub fn onward(outlook: &Outlook<'_>, room: &Room, number: u32) -> Option<u128>
 
 /// What the cheapest walk costs that leaves the path at a place by an edge; None where the edge is the path's own or is
 /// excluded, or where no path leads on from it. `before` is what the path costs up to the place.
-fn offer(
+fn deviation_cost(
     outlook: &Outlook<'_>,
     room: &Room,
     place: usize,
@@ -70,11 +70,11 @@ fn offer(
         place)).from }
 
     // It is what the cheapest walk costs that leaves the path by the edge, None where none does.
-    ensures { MatchOption result ((total : ℕ) → Offers outlook.now.graph.now outlook.now.point.now
-        outlook.now.request.now.excluded room.now outlook.now.request.now.path.edges place number
-        total → ⊥) (λ total. Offers outlook.now.graph.now outlook.now.point.now
-        outlook.now.request.now.excluded room.now outlook.now.request.now.path.edges place number
-        total) }
+    ensures { MatchOption result ((total : ℕ) → DeviatesFromPath outlook.now.graph.now
+        outlook.now.point.now outlook.now.request.now.excluded room.now
+        outlook.now.request.now.path.edges place number total → ⊥) (λ total. DeviatesFromPath
+        outlook.now.graph.now outlook.now.point.now outlook.now.request.now.excluded room.now
+        outlook.now.request.now.path.edges place number total) }
 {
     if number == outlook.request.path.edges.as_slice()[place] {
         return None;
@@ -118,7 +118,7 @@ pub fn better_by(
 }
 
 /// The best of the deviations before a place and at it; `best` is the best of those before it.
-fn better_at(
+fn best_at(
     outlook: &Outlook<'_>,
     room: &Room,
     place: usize,
@@ -137,14 +137,16 @@ fn better_at(
     requires near { before < 2 ^ 26 * outlook.now.point.now.scale }
 
     // `best` is the best of the deviations before the place, and the result of those up to it.
-    requires best { IsBestDeviation outlook.now room.now (λ earlier e. earlier < place) best }
-    ensures { IsBestDeviation outlook.now room.now (λ earlier e. earlier < place + 1) result }
+    requires best { IsBestDeviationFromPath outlook.now room.now (λ earlier e. earlier < place)
+        best }
+    ensures { IsBestDeviationFromPath outlook.now room.now (λ earlier e. earlier < place + 1)
+        result }
 {
     outlook.graph.keeps_conditions();
     let named = outlook.request.path.edges.as_slice()[place];
     let mut found = best;
     for number in outlook.graph.edges_out(edge_of(outlook.graph, named).from) {
-        let cost = offer(outlook, room, place, before, *number);
+        let cost = deviation_cost(outlook, room, place, before, *number);
         found = better_by(found, place, *number, cost);
     }
     found
@@ -157,14 +159,14 @@ pub(crate) fn least_deviation(outlook: &Outlook<'_>, room: &Room) -> Option<Devi
     requires fits { FitsOutlook outlook.now }
     requires found { HasDistances outlook.now room.now }
     requires path { HasItsPath outlook.now }
-    ensures { IsBestDeviation outlook.now room.now (λ place e.
+    ensures { IsBestDeviationFromPath outlook.now room.now (λ place e.
         place < length outlook.now.request.now.path.edges) result }
 {
     outlook.graph.keeps_conditions();
     let mut best = None;
     let mut before = 0;
     for (place, number) in outlook.request.path.edges.as_slice().iter().enumerate() {
-        best = better_at(outlook, room, place, before, best);
+        best = best_at(outlook, room, place, before, best);
         before += price_of(edge_of(outlook.graph, *number).price, outlook.point);
     }
     best

@@ -5,12 +5,12 @@ mod asker;
 mod deviation;
 mod outlook;
 mod rival;
+mod shared;
 mod told;
 
 pub use asker::Asker;
 pub use deviation::{Deviation, better_by, onward};
 pub use outlook::Outlook;
-pub use rival::{
-    Rival, cheapest_rival, find_distances, find_rival, find_rival_at_hand, leave_by, put_front,
-};
+pub use rival::{Rival, cheapest_rival, find_distances, find_rival, least_lead, leave_by};
+pub use shared::{Shared, prepare, sorted_numbers, target_of};
 pub use told::{nothing_told, tell};

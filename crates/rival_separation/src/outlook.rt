@@ -1,4 +1,4 @@
-//! A request of a graph, at a point.
+//! An outlook: a request of a graph, at a point.
 
 use area_graph::{Graph, Point};
 use design_problem::Request;

@@ -9,7 +9,7 @@ ghost use Rattle.design_problem.specs.Problems.{request_ends};
 ghost use Rattle.spf_ties.specs.Distances.{IsRoomFor, is_tight};
 ghost use Rattle.rival_separation.specs.Answers.{IsRivalAnswer};
 ghost use Rattle.rival_separation.specs.Askers.{RequestLeads};
-ghost use Rattle.rival_separation.specs.Outlooks.{CanCompare, FitsOutlook, HasDistances, HasItsPath, IsBestDeviation, IsCheapestRivalSeen, lead_in};
+ghost use Rattle.rival_separation.specs.Outlooks.{CanCompare, FitsOutlook, HasDistances, HasItsPath, IsBestDeviationFromPath, IsCheapestRivalSeen, lead_in};
 ghost use Rattle.rival_separation.specs.Rivals.{HasDistancesBelow, HasWay, IsCheapestRival, IsFollowedByLeast, IsNextEdge, with_edge};
 ghost use Rattle.rival_separation.specs.declared.deviation.Deviation.{Deviation};
 
@@ -57,7 +57,7 @@ fn next_edge(graph: &Graph, point: &Point, room: &Room, vertex: u32) -> Option<u
 }
 
 /// Makes the path that the room keeps these edges.
-pub fn put_front(room: &mut Room, edges: &[u32])
+pub(crate) fn put_front(room: &mut Room, edges: &[u32])
     requires { length edges.now ≤ length room.old.costs }
     ensures { room.new ≡ record room.old { path = edges.now } }
 {
@@ -119,7 +119,7 @@ pub fn leave_by(outlook: &Outlook<'_>, edge: u32, room: &mut Room)
 }
 
 /// What a rival costs at least where the path of a request leads by the scale: what the path costs, and the scale.
-pub(crate) fn least_lead(outlook: &Outlook<'_>) -> u128
+pub fn least_lead(outlook: &Outlook<'_>) -> u128
     requires fits { FitsOutlook outlook.now }
     requires path { HasItsPath outlook.now }
     ensures { result ≡ lead_in outlook.now }
@@ -150,7 +150,7 @@ pub(crate) fn cheap_deviation(outlook: &Outlook<'_>, room: &Room) -> Option<Devi
     requires found { CanCompare outlook.now room.now }
     requires path { HasItsPath outlook.now }
     ensures { MatchOption result (RequestLeads outlook.now.graph.now outlook.now.point.now
-        outlook.now.request.now) (λ best. IsBestDeviation outlook.now room.now
+        outlook.now.request.now) (λ best. IsBestDeviationFromPath outlook.now room.now
         (λ place e. place < length outlook.now.request.now.path.edges) (Some best) ×
         (best.cost < lead_in outlook.now)) }
 {
@@ -192,7 +192,7 @@ pub fn find_rival(graph: &Graph, request: &Request, point: &Point, room: &mut Ro
 /// Looks for the cheapest rival of a request's path as `find_rival` does, by the distances that the room has: those to
 /// the request's end without its excluded edges, which are below what the path and the scale cost. It finds the same
 /// rival, and the room has the same distances afterwards.
-pub fn find_rival_at_hand(outlook: &Outlook<'_>, room: &mut Room) -> bool
+pub(crate) fn find_rival_at_hand(outlook: &Outlook<'_>, room: &mut Room) -> bool
     // The room has the distances up to what the request's path is compared with.
     requires fits { FitsOutlook outlook.now }
     requires found { CanCompare outlook.now room.old }
@@ -225,7 +225,7 @@ fn lay_out(outlook: &Outlook<'_>, best: Deviation, room: &mut Room)
     requires path { HasItsPath outlook.now }
 
     // The deviation is the best of all, and costs less than the path and the scale.
-    requires best { IsBestDeviation outlook.now room.old (λ place e.
+    requires best { IsBestDeviationFromPath outlook.now room.old (λ place e.
         place < length outlook.now.request.now.path.edges) (Some best) }
     requires cheap { best.cost < lead_in outlook.now }
 

@@ -2,7 +2,7 @@
 
 ghost use Rattle.std.specs.Prelude.{◌≡◌, ◌<◌, IfOk, length, slice_set};
 
-use cost_base::{Listed, OutOfMemory};
+use cost_base::{Listed, OutOfMemory, filled_by};
 use std::alloc::Global;
 
 /// So many places, and nothing told at any of them.
@@ -13,13 +13,7 @@ use std::alloc::Global;
 pub fn nothing_told(alloc: Global, count: usize) -> Result<Vec<Option<Listed<u32>>>, OutOfMemory>
     ensures { IfOk result (λ rivals. length rivals.items ≡ count) }
 {
-    let mut rivals = Vec::new(alloc);
-    for place in 0..count {
-        // For the prover: an invariant names the number, which nothing else reads.
-        let _ = place;
-        rivals.push(None)?;
-    }
-    Ok(rivals)
+    filled_by(alloc, count, || None)
 }
 
 /// Puts what is told of the request or the set of that number to its place.

@@ -5,7 +5,7 @@ use design_problem::Entry;
 
 /// An advisor of a case.
 #[derive(Clone, Copy)]
-pub enum Adviser {
+pub enum CaseAdvisor {
     /// Always picks this position, be there such a candidate or not.
     Picks(u32),
     /// Picks the first candidate.
@@ -29,7 +29,7 @@ impl Advisor for Always {
 
     ghost after = { λ state _. state };
 
-    fn pick(&mut self, _choices: &[Candidate]) -> u32 {
+    fn pick(&mut self, _candidates: &[Candidate]) -> u32 {
         self.position
     }
 

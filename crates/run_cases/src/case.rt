@@ -1,6 +1,6 @@
 //! What a run of a case is made of.
 
-use crate::advisors::Adviser;
+use crate::advisors::CaseAdvisor;
 use cost_base::Name;
 use std::alloc::Global;
 
@@ -29,7 +29,7 @@ pub struct Case {
     /// Whether the run is over a shelf and a sink that never fail.
     pub is_sure: bool,
     /// The advisors.
-    pub advisers: Vec<Adviser>,
+    pub advisors: Vec<CaseAdvisor>,
     /// What the run is to come to.
     pub wanted: Wanted,
 }
@@ -43,7 +43,7 @@ impl Case {
             failing_takes: Vec::new(alloc),
             failing_puts: Vec::new(alloc),
             is_sure: false,
-            advisers: Vec::new(alloc),
+            advisors: Vec::new(alloc),
             wanted: Wanted {
                 status: 0,
                 output: Vec::new(alloc),

@@ -1,6 +1,6 @@
 //! The file of a case, line by line.
 
-use crate::advisors::Adviser;
+use crate::advisors::CaseAdvisor;
 use crate::case::Case;
 use crate::pieces::{push_lines, push_numbered};
 use anyhow::{Context, Result, bail};
@@ -49,12 +49,12 @@ fn number_and_rest(text: &str) -> Result<(u64, &str)> {
 }
 
 /// The advisor of a line: `picks POSITION`, or `smallest-number`.
-fn adviser(text: &str) -> Result<Adviser> {
+fn advisor(text: &str) -> Result<CaseAdvisor> {
     if text == "smallest-number" {
-        return Ok(Adviser::SmallestNumber);
+        return Ok(CaseAdvisor::SmallestNumber);
     }
     let position = text.strip_prefix("picks ").context("no such advisor")?;
-    Ok(Adviser::Picks(position.parse::<u32>().context("no position")?))
+    Ok(CaseAdvisor::Picks(position.parse::<u32>().context("no position")?))
 }
 
 impl Draft {
@@ -178,8 +178,8 @@ impl Draft {
             "status" | "advisors-left" | "take" => self.take_number(kind, rest),
             "put" => self.add_failing_put(rest),
             "advisor" => {
-                let adviser = adviser(rest)?;
-                Ok(self.case.advisers.push(adviser)?)
+                let advisor = advisor(rest)?;
+                Ok(self.case.advisors.push(advisor)?)
             }
             "sure" => {
                 self.case.is_sure = true;

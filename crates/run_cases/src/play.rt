@@ -1,6 +1,6 @@
 //! A run of a case, compared with what it is to come to.
 
-use crate::advisors::{Adviser, Always};
+use crate::advisors::{Always, CaseAdvisor};
 use crate::case::{Case, Wanted};
 use cost_base::{MemoryShelf, MemorySink, Shelf, Sink, Status, SureShelf, SureSink};
 use cut_advisors::{Advisor, SmallestNumber};
@@ -78,10 +78,10 @@ fn run_case<S: Shelf, K: Sink>(
     sink: &mut K,
 ) -> Result<(Status, usize), AllocError> {
     let mut advisors: Vec<Box<dyn Advisor>> = Vec::new(alloc);
-    for adviser in case.advisers.as_slice() {
-        match *adviser {
-            Adviser::Picks(position) => advisors.push(Box::new(alloc, Always { position })?)?,
-            Adviser::SmallestNumber => advisors.push(Box::new(alloc, SmallestNumber)?)?,
+    for advisor in case.advisors.as_slice() {
+        match *advisor {
+            CaseAdvisor::Picks(position) => advisors.push(Box::new(alloc, Always { position })?)?,
+            CaseAdvisor::SmallestNumber => advisors.push(Box::new(alloc, SmallestNumber)?)?,
         }
     }
     let status = run(alloc, &case.words, shelf, sink, &mut advisors);

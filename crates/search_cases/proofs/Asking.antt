@@ -7,7 +7,7 @@ use Rattle.std.proofs.lemmas.List.{get_or_default}
 use Rattle.std.proofs.lemmas.List.Elements.{All-append, All-cons, All-nil, Contains-push}
 use Rattle.area_graph.specs.declared.Point.{Point}
 use Rattle.design_problem.specs.Forms.{Form, form_at, no_form, value_at, AreMet}
-use Rattle.form_search.specs.Sources.{Grows, HasNewRival, IsSourceAnswer}
+use Rattle.form_search.specs.Sources.{Grows, HasNewForm, IsSourceAnswer}
 use Rattle.form_search.specs.declared.source.Asked.{Asked}
 use Rattle.form_search.specs.declared.source.Asked.TheVariants.{Nothing, Added}
 use Rattle.search_cases.specs.SmallForms.{AnswersFormsBelow, AreFormsAsked, IsFormAsked, IsTiny, IsTrueSmallForm, SmallForms, answer_so_far}
@@ -38,7 +38,7 @@ kept : (list : SmallForms) (point : Point) (count : ℕ) (old mid new : List For
     AnswersFormsBelow list.forms point count old mid asked → pos 0 ≤ℤ value_at (form_at list.forms count) point → new ≡ mid →
     AnswersFormsBelow list.forms point (count + 1) old new asked
 kept list point count old mid new Nothing answer here same = (same ∙ answer.0, all_below list.forms point count answer.1 here)
-kept list point count old mid new Added answer here same = (answer.0, subst (λ (fs : List Form). HasNewRival point old fs) (sym same) answer.1)
+kept list point count old mid new Added answer here same = (answer.0, subst (λ (fs : List Form). HasNewForm point old fs) (sym same) answer.1)
 
 -- one more form
 pub asked_more : (list : SmallForms) (point : Point) (count : ℕ) (old mid new : List Form) (asked : Asked)

@@ -2,7 +2,7 @@
 use Rattle.std.specs.Prelude.{◌≡◌, ℕ, ◌^◌, ◌<◌, ◌≤◌, List, [], ◌∷◌, ◌++◌, pos, ◌<ℤ◌, ◌≤ℤ◌, nat_abs, length, All, Contains, Bool, true, false}
 use Rattle.area_graph.specs.declared.Point.{Point}
 use Rattle.design_problem.specs.Forms.{Form, form_at, terms_of, value_at, AreMet}
-use Rattle.form_search.specs.Sources.{Grows, HasNewRival}
+use Rattle.form_search.specs.Sources.{Grows, HasNewForm}
 use Rattle.form_search.specs.declared.source.Asked.{Asked}
 use Rattle.form_search.specs.declared.source.Asked.TheVariants.{Nothing, Added}
 
@@ -36,7 +36,7 @@ answer_so_far asked false = asked
 -- nothing was added where the first forms are at least 0, and something where one isn't
 abbrev pub AnswersFormsBelow : List Form → Point → ℕ → List Form → List Form → Asked → Type 0
 AnswersFormsBelow forms point count old new Nothing = (new ≡ old) × ((k : ℕ) → k < count → pos 0 ≤ℤ value_at (form_at forms k) point)
-AnswersFormsBelow forms point count old new Added = (AreMet forms point → ⊥) × HasNewRival point old new
+AnswersFormsBelow forms point count old new Added = (AreMet forms point → ⊥) × HasNewForm point old new
 
 -- the first forms were asked
 pub record AreFormsAsked (list : SmallForms) (point : Point) (count : ℕ) (old new : List Form) (asked : Asked) : Type 0 where

@@ -21,7 +21,7 @@ impl Advisor for Turns {
 
     ghost after = { λ state _. state };
 
-    fn pick(&mut self, _choices: &[Candidate]) -> u32 {
+    fn pick(&mut self, _candidates: &[Candidate]) -> u32 {
         if self.calls == 0 {
             return self.position;
         }

@@ -7,15 +7,29 @@ ghost use Rattle.fraction_table.specs.declared.stage.Stage.TheVariants.{Ended};
 use crate::command::{Command, read_command};
 use crate::scene::{Scene, scene_of};
 use crate::search::search_text;
-use crate::words::{Members, Multipliers, Values};
+use crate::words::{Members, MultiplierWords};
 use area_graph::Point;
-use case_scripts::Step;
+use case_scripts::{Script, Spaced, Step};
 use cost_base::Listed;
-use design_problem::{CostBox, Form, Parts};
+use design_problem::{CostBox, Form, Multipliers};
 use exact_simplex::Tableau;
 use fraction_table::{SimplexStop, Solved, is_box};
 use std::alloc::{AllocError, Global};
+use std::io;
 use wide_fraction::Top;
+
+/// The scene at hand, if a script began one.
+#[derive(Drop)]
+pub struct SceneAtHand {
+    scene: Option<Scene>,
+}
+
+impl SceneAtHand {
+    /// No scene.
+    pub(crate) fn new() -> SceneAtHand {
+        SceneAtHand { scene: None }
+    }
+}
 
 /// The members of the basis.
 fn basis(alloc: Global, tableau: &Tableau) -> Result<String, AllocError> {
@@ -98,8 +112,8 @@ fn point_text(alloc: Global, tableau: &Tableau, point: &mut Point) -> Result<Str
 {
     match tableau.point(point) {
         Ok(()) => format!(in alloc;
-            ": feasible, least point {}over {}",
-            Values(point.values.as_slice()),
+            ": feasible, least point{} over {}",
+            Spaced(point.values.as_slice()),
             point.scale
         ),
         Err(wide) => format!(in alloc; ": feasible, {}", Step(wide)),
@@ -119,7 +133,7 @@ fn parts_text(
     alloc: Global,
     tableau: &Tableau,
     form: u64,
-    parts: &mut Parts,
+    parts: &mut Multipliers,
 ) -> Result<String, AllocError>
     requires { tableau.now.stage ≡ Ended (Refuted form) }
 {
@@ -130,7 +144,7 @@ fn parts_text(
         }
         Ok(()) => format!(in alloc;
             ": refuted at form {form}, multipliers{}",
-            Multipliers(parts.as_slice())
+            MultiplierWords(parts.as_slice())
         ),
     }
 }
@@ -139,7 +153,7 @@ fn parts_text(
 fn multipliers(alloc: Global, tableau: &Tableau, form: u64) -> Result<String, AllocError>
     requires { tableau.now.stage ≡ Ended (Refuted form) }
 {
-    let mut parts = Parts::from_items(Vec::new(alloc));
+    let mut parts = Multipliers::from_items(Vec::new(alloc));
     parts_text(alloc, tableau, form, &mut parts)
 }
 
@@ -177,12 +191,14 @@ fn answer_to(
     }
 }
 
-/// What the scene at hand answers to a line, to stand behind the line.
-pub(crate) fn answer(
-    alloc: Global,
-    scene: &mut Option<Scene>,
-    line: &str,
-) -> Result<String, AllocError> {
+/// What the scene at hand answers to a line.
+fn reply(alloc: Global, scene: &mut Option<Scene>, line: &str) -> Result<String, AllocError> {
     let asked = read_command(alloc, line)?;
     answer_to(alloc, scene, &asked)
+}
+
+impl Script for SceneAtHand {
+    fn answer(&mut self, alloc: Global, line: &str) -> io::Result<String> {
+        Ok(reply(alloc, &mut self.scene, line)?)
+    }
 }

@@ -10,25 +10,11 @@ mod search;
 mod source;
 mod words;
 
-use crate::scene::Scene;
+use crate::answer::SceneAtHand;
+use case_scripts::play_all;
 use std::io;
 
-/// Writes a line, and behind it what is answered.
-fn play(rt: HostRuntime, scene: &mut Option<Scene>, line: &str) -> io::Result<()> {
-    let text = answer::answer(rt.alloc(), scene, line)?;
-    println!(rt; "{line}{text}")
-}
-
-/// Plays each line of standard input.
-fn play_all(rt: HostRuntime, scene: &mut Option<Scene>) -> io::Result<()> {
-    for line in rt.lines(rt.alloc()) {
-        let line = line?;
-        play(rt, scene, line.as_str())?;
-    }
-    Ok(())
-}
-
 fn main(rt: HostRuntime) -> io::Result<()> {
-    let mut scene: Option<Scene> = None;
-    play_all(rt, &mut scene)
+    let mut scene = SceneAtHand::new();
+    play_all(&rt, &mut scene)
 }

@@ -20,19 +20,12 @@ pub struct Scene {
     pub is_searched: bool,
 }
 
-/// The same box.
-fn copy_of(alloc: Global, costs: &CostBox) -> Result<CostBox, OutOfMemory> {
-    let low = costs.low.copy(alloc)?;
-    let high = costs.high.copy(alloc)?;
-    Ok(CostBox { low, high })
-}
-
 /// A scene with a tableau over the box, and no row.
 pub(crate) fn scene_of(alloc: Global, costs: &CostBox, top: Top) -> Result<Scene, AllocError>
     requires ranges { IsBox (length costs.now.low) costs.now }
     requires few { length costs.now.low < 2 ^ 32 }
 {
-    let Ok(copy) = copy_of(alloc, costs) else {
+    let Ok(copy) = costs.copy(alloc) else {
         return Err(AllocError);
     };
     match Tableau::start(alloc, costs, top) {

@@ -5,10 +5,11 @@ ghost use Rattle.design_problem.specs.Boxes.{IsBox};
 use crate::advisors::advisor_of;
 use crate::scene::Scene;
 use crate::source::FormList;
-use crate::words::{Costs, Entries, Forms};
+use crate::words::Forms;
+use case_scripts::{Entries, Spaced};
 use cut_advisors::Advisor;
 use design_problem::CostBox;
-use form_search::{FormPool, Found, RowSource, search};
+use form_search::{FormPool, FormSource, Found, search};
 use fraction_table::is_box;
 use std::alloc::{AllocError, Global};
 use wide_fraction::Limits;
@@ -28,10 +29,10 @@ fn is_searchable(costs: &CostBox, variables: u32) -> bool
 fn found_text(alloc: Global, found: &Found, pool: &FormPool) -> Result<String, AllocError> {
     let (word, tree) = match found {
         Found::Costs(costs) => {
-            return format!(in alloc; ": costs{}", Costs(costs.as_slice()));
+            return format!(in alloc; ": costs{}", Spaced(costs.as_slice()));
         }
         Found::Refuted(tree) => ("refuted", tree),
-        Found::Undecided(tree) => ("spent", tree),
+        Found::Undecided(tree) => ("undecided", tree),
     };
     format!(in alloc;
         ": {word}{}{}",

@@ -7,7 +7,7 @@ ghost use Rattle.search_cases.specs.SmallForms.{IsFormAsked, IsTiny, answer_so_f
 use area_graph::Point;
 use cost_base::OutOfMemory;
 use design_problem::Form;
-use form_search::{Asked, FormPool, RowSource};
+use form_search::{Asked, FormPool, FormSource};
 use std::alloc::Global;
 use std::marker::Model;
 
@@ -134,7 +134,7 @@ impl FormList {
     }
 }
 
-impl RowSource for FormList {
+impl FormSource for FormList {
     ghost use Rattle.std.specs.Prelude.{All};
     ghost use Rattle.design_problem.specs.Forms.{AreMet};
     ghost use Rattle.search_cases.specs.SmallForms.{IsTrueSmallForm};
@@ -148,7 +148,7 @@ impl RowSource for FormList {
 
     ghost in_step = { λ s forms. Unit {0} };
 
-    ghost candidates = { λ s. s.forms };
+    ghost possible_forms = { λ s. s.forms };
 
     fn variables(&self) -> u32 {
         self.variables

@@ -6,10 +6,9 @@ use Rattle.cost_base.specs.Decimal.{decimal}
 use Rattle.design_problem.specs.declared.answer.CostLine.{CostLine}
 use Rattle.design_problem.specs.declared.answer.Costs.{Costs}
 use Rattle.design_problem.specs.Answers.{AnswerParts}
-use Rattle.design_problem.specs.Text.{router_lines, cost_lines, costs_lines, answer_lines, text, FitsCosts}
+use Rattle.design_problem.specs.Text.{router_lines, cost_lines, costs_lines, answer_lines, text, FitsCosts, head_lines, interface_lines, verdict_line}
 use Rattle.text_lines.specs.Lines.{lines, with_ends, IsOneLine}
 use Rattle.text_lines.proofs.LineLaws.{lines-concat}
-use Rattle.evidence_text.specs.Parts.{head_lines, interface_lines, verdict_line}
 use Rattle.evidence_text.proofs.AnswerOrder.{after_costs, after_head, answer_lines-ordered}
 use Rattle.answer_lines.specs.declared.other_text.OtherText.{OtherText}
 use Rattle.answer_lines.specs.declared.other_text.OtherText.TheVariants.{Total, Spread, Change}

@@ -1,13 +1,13 @@
 -- Another text that is written so says its costs.
-use Rattle.std.proofs.Common.{◌≡◌, ℕ, ◌+◌, ◌≤◌, List, [], ◌∷◌, ◌++◌, length, Option, Some, None, refl, sym, ap, subst, ◌∙◌, arith, inl, inr, append_assoc, append-nil}
+use Rattle.std.proofs.Common.{◌≡◌, ℕ, ◌+◌, ◌≤◌, List, [], ◌∷◌, ◌++◌, Option, Some, None, refl, sym, ap, subst, ◌∙◌, inl, inr, append_assoc}
 use Rattle.design_problem.specs.declared.answer.CostLine.{CostLine}
 use Rattle.text_lines.specs.Lines.{with_ends}
 use Rattle.answer_lines.specs.declared.other_text.OtherText.{OtherText}
 use Rattle.answer_lines.specs.declared.other_text.OtherText.TheVariants.{Total, Spread, Change}
-use Rattle.answer_lines.specs.Grammar.{TextPlace, AtOtherHead, AtInnerHead, AtOtherVerdict, AtOtherCosts, AtSections, AtSectionsEnd, AtUnread, AfterEnd, IsOtherVerdict, IsSectionsEnd, answer_head, behind_other_head, greatest_of_costs, inner_ends, other_head}
-use Rattle.answer_lines.specs.Lawful.{LeadOn, IsRead}
+use Rattle.answer_lines.specs.Grammar.{AtOtherHead, AtInnerHead, AtOtherVerdict, AtOtherCosts, AtSections, AtSectionsEnd, AtUnread, AfterEnd, IsOtherVerdict, IsSectionsEnd, answer_head, behind_other_head, greatest_of_costs, inner_ends, other_head}
+use Rattle.answer_lines.specs.Lawful.{LeadOn}
 use Rattle.evidence_reader.proofs.Lawful.{GoOn, costs-on, go-then, lawful}
-use Rattle.evidence_reader.proofs.NextPlaces.{read-then}
+use Rattle.evidence_reader.proofs.NextPlaces.{lead-then}
 use Rattle.evidence_reader.proofs.SectionLines.{router_before}
 use Rattle.evidence_reader.proofs.GrammarLines.{next_is_one_line}
 use Rattle.sections_reader.specs.Laws.{AreBounded, OtherTextsSayTheirCosts}
@@ -30,14 +30,6 @@ sections-on of number (Some costs) behind small fit bounds ends = (
   go-then (AtSections (Some of) None) (AtSections (Some of) (router_before None costs)) (AtUnread (inner_ends of)) _ (behind ∷ [])
       (costs-on (Some of) None costs fit bounds) (AtUnread (inner_ends of), inr (inr (ends, refl)), refl),
 )
-
--- lines that lead on, one list behind the other
-lead-both : (from mid to : TextPlace) (xs ys : List (List ℕ)) → LeadOn from xs mid → LeadOn mid ys to → LeadOn from (xs ++ ys) to
-lead-both from mid to xs ys first second =
-    let one : IsRead from 0 (with_ends xs ++ with_ends ys) xs mid (length xs) (with_ends ys) = record { lead = first; parts = refl; count = omega arith } in
-    let other : IsRead mid (length xs) (with_ends ys) ys to (length xs + length ys) [] =
-    record { lead = second; parts = sym (append-nil (with_ends ys)); count = omega arith } in
-    (read-then from mid to 0 _ _ _ _ [] xs ys one other).lead
 
 -- the first line is the head
 head-named : (of : OtherText) (rest : List (List ℕ)) → text_of_bytes (with_ends (other_head of ∷ rest)) ≡ text_by_head (Some (other_head of))
@@ -69,7 +61,7 @@ others_said of verdict number costs behind unread said small fit bounds ends sho
       behind = behind;
       unread = unread;
       spelled = refl;
-      lawful = subst (λ ls. LeadOn (AtOtherHead of) ls AfterEnd) order (lead-both (AtOtherHead of) (AtUnread (inner_ends of)) AfterEnd read unread lead rest);
+      lawful = subst (λ ls. LeadOn (AtOtherHead of) ls AfterEnd) order (lead-then (AtOtherHead of) (AtUnread (inner_ends of)) AfterEnd read unread lead rest);
       ends = ends;
       fit = fit;
     })

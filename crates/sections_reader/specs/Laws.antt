@@ -1,7 +1,7 @@
 -- Laws of the texts with costs.
 use Rattle.std.specs.Prelude.{◌≡◌, ℕ, ◌≤◌, List, [], ◌∷◌, ◌++◌, All, Option, None, Some, length}
 use Rattle.text_lines.specs.Lines.{with_ends}
-use Rattle.design_problem.specs.Bounds.{IsCost}
+use Rattle.design_problem.specs.AnswerRanges.{IsCost}
 use Rattle.evidence_text.specs.Lines.{AreShort}
 use Rattle.answer_lines.specs.declared.other_text.OtherText.{OtherText}
 use Rattle.answer_lines.specs.Grammar.{AtUnread, AfterEnd, IsOtherVerdict, IsSectionsEnd, greatest_of_costs, inner_ends}

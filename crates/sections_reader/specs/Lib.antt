@@ -1,3 +1,4 @@
+pub mod FaultNumbers
 pub mod Texts
 pub mod Laws
 pub mod Stages

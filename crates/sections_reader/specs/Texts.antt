@@ -56,9 +56,11 @@ abbrev pub FitLines : Option (List CostLine) → Type 0
 FitLines None = Unit {0}
 FitLines (Some costs) = All FitsCostLine costs
 
--- the bytes are another text with these cost lines, or without costs. What its other lines say is not compared with them.
+-- the bytes are another text with these cost lines, or without costs. What its other lines say is not compared with
+-- them.
 pub record IsSaidByOther (text : OtherText) (bytes : List ℕ) (costs : Option (List CostLine)) : Type 0 where
-  -- the verdict, the number before the sections, the line behind them, and all further lines: nobody reads those but `end`
+  -- the verdict, the number before the sections, the line behind them, and all further lines: nobody reads those but
+  -- `end`
   pub verdict : List ℕ
   pub number : ℕ
   pub behind : List ℕ

@@ -3,10 +3,12 @@
 #![tactic(auto)]
 
 mod costs;
+mod fault;
 mod heads;
-mod kinds;
 pub mod laws;
 mod reader;
 mod unread;
+mod whose_text;
 
+pub use fault::CostsFault;
 pub use reader::read_costs;

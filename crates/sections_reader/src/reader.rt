@@ -7,8 +7,8 @@ ghost use Rattle.sections_reader.specs.Texts.{IsSaidByAnswer, IsSaidByOther, Say
 
 use crate::costs::read_other_costs;
 use crate::heads::read_top;
-use crate::kinds::text_of_bytes;
 use crate::unread::pass_unread;
+use crate::whose_text::text_of_bytes;
 use answer_lines::{OtherText, TextLeft};
 use cost_base::{Listed, Refusal};
 use design_problem::{CostLine, Costs};

@@ -4,21 +4,29 @@
 //! `stdin` has a line for each number, and `stdout` the sentences, which were written down outside.
 #![tactic(auto)]
 
+use case_scripts::{Script, play_all};
 use refusal_sentences::sentence_of;
+use std::alloc::Global;
 use std::io::{self, ErrorKind};
 
-fn main(rt: HostRuntime) -> io::Result<()> {
-    let alloc = rt.alloc();
-    for line in rt.lines(alloc) {
-        let line = line?;
+/// Tells refusals in sentences. Nothing lasts from line to line.
+#[derive(Drop)]
+struct Sentences;
+
+impl Script for Sentences {
+    fn answer(&mut self, alloc: Global, line: &str) -> io::Result<String> {
         let told = sentence_of(alloc, line.as_bytes()).map_err(|_| ErrorKind::OutOfMemory)?;
         match told
             .as_ref()
             .map(|sentence| str::from_utf8(sentence.as_bytes()))
         {
-            Some(Ok(sentence)) => println!(rt; "{line} = {sentence}")?,
-            _ => println!(rt; "{line}")?,
+            Some(Ok(sentence)) => Ok(format!(in alloc; " = {sentence}")?),
+            _ => Ok(String::new(alloc)),
         }
     }
-    Ok(())
+}
+
+fn main(rt: HostRuntime) -> io::Result<()> {
+    let mut sentences = Sentences;
+    play_all(&rt, &mut sentences)
 }

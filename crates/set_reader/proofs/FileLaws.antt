@@ -36,15 +36,15 @@ faults_alike requests said sets (Numbers numbers) orders = ap (λ (b : Bool). wr
 -- what the reader finds at a statement is what those before it say of it
 fault_found : (start so_far : SoFar) (said : Statement) (words : List (List ℕ)) → said ≡ set_statement_of words → (before : List SaidLine) →
     HasTaken start so_far before →
-    (set_rules start.problem.paths).fault_of before words ≡ set_fault_said so_far.problem.paths so_far.sets said
+    (set_rules start.problem.requests).fault_of before words ≡ set_fault_said so_far.problem.requests so_far.sets said
 fault_found start so_far said words is before has =
-    faults_alike start.problem.paths (sets_told_by before) so_far.sets (set_statement_of words) has.sets
-    ∙ ap (λ (s : Statement). set_fault_said start.problem.paths so_far.sets s) (sym is)
-    ∙ ap (λ (p : DesignProblem). set_fault_said p.paths so_far.sets said) (sym has.problem)
+    faults_alike start.problem.requests (sets_told_by before) so_far.sets (set_statement_of words) has.sets
+    ∙ ap (λ (s : Statement). set_fault_said start.problem.requests so_far.sets s) (sym is)
+    ∙ ap (λ (p : DesignProblem). set_fault_said p.requests so_far.sets said) (sym has.problem)
 
 said_lawful : (so_far : SoFar) (said : Statement) (words : List (List ℕ)) → said ≡ set_statement_of words →
-    set_fault_said so_far.problem.paths so_far.sets said ≡ None → (start : SoFar) (before : List SaidLine) → HasTaken start so_far before →
-    (set_rules start.problem.paths).fault_of before words ≡ None
+    set_fault_said so_far.problem.requests so_far.sets said ≡ None → (start : SoFar) (before : List SaidLine) → HasTaken start so_far before →
+    (set_rules start.problem.requests).fault_of before words ≡ None
 said_lawful so_far said words is none start before has = fault_found start so_far said words is before has ∙ none
 
 said_told : (so_far after : SoFar) (n : ℕ) (said : Statement) (words : List (List ℕ)) → said ≡ set_statement_of words →
@@ -62,15 +62,15 @@ said_told so_far after n said words is takes start before has =
     }
 
 said_refused : (so_far : SoFar) (n : ℕ) (said : Statement) (words : List (List ℕ)) (refusal : Refusal SetFault ℕ) →
-    said ≡ set_statement_of words → TellsFault (fault_in_line n (set_fault_said so_far.problem.paths so_far.sets said)) refusal →
+    said ≡ set_statement_of words → TellsFault (fault_in_line n (set_fault_said so_far.problem.requests so_far.sets said)) refusal →
     (start : SoFar) (before : List SaidLine) → HasTaken start so_far before →
-    TellsFault (fault_in_line n ((set_rules start.problem.paths).fault_of before words)) refusal
+    TellsFault (fault_in_line n ((set_rules start.problem.requests).fault_of before words)) refusal
 said_refused so_far n said words refusal is tells start before has =
     subst (λ (o : Option SetFault). TellsFault (fault_in_line n o) refusal) (sym (fault_found start so_far said words is before has)) tells
 
 pub taken_lawful : {T E : Type 0} (r : Result T E) (so_far : SoFar) (said : Statement) (words : List (List ℕ)) → said ≡ set_statement_of words →
-    OnOk r (set_fault_said so_far.problem.paths so_far.sets said ≡ None) →
-    OnOk r ((start : SoFar) (before : List SaidLine) → HasTaken start so_far before → (set_rules start.problem.paths).fault_of before words ≡ None)
+    OnOk r (set_fault_said so_far.problem.requests so_far.sets said ≡ None) →
+    OnOk r ((start : SoFar) (before : List SaidLine) → HasTaken start so_far before → (set_rules start.problem.requests).fault_of before words ≡ None)
 taken_lawful {T} {E} r so_far said words is none = on_ok_weaker r (λ n start before has. said_lawful so_far said words is n start before has) none
 
 pub taken_told : {T E : Type 0} (r : Result T E) (so_far after : SoFar) (n : ℕ) (said : Statement) (words : List (List ℕ)) →
@@ -81,9 +81,9 @@ taken_told {T} {E} r so_far after n said words is takes =
     on_ok_weaker r (λ t start before has. said_told so_far after n said words is t start before has) takes
 
 pub taken_refused : {T : Type 0} (r : Result T (Refusal SetFault ℕ)) (so_far : SoFar) (n : ℕ) (said : Statement) (words : List (List ℕ)) →
-    said ≡ set_statement_of words → IfErr r (TellsFault (fault_in_line n (set_fault_said so_far.problem.paths so_far.sets said))) →
+    said ≡ set_statement_of words → IfErr r (TellsFault (fault_in_line n (set_fault_said so_far.problem.requests so_far.sets said))) →
     IfErr r (λ refusal. (start : SoFar) (before : List SaidLine) → HasTaken start so_far before →
-    TellsFault (fault_in_line n ((set_rules start.problem.paths).fault_of before words)) refusal)
+    TellsFault (fault_in_line n ((set_rules start.problem.requests).fault_of before words)) refusal)
 taken_refused {T} r so_far n said words is tells =
     MatchResult-weaker r tells (λ _ t. t) (λ refusal t start before has. said_refused so_far n said words refusal is t start before has)
 
@@ -97,11 +97,11 @@ begins p start is = record {
 
 -- the reader at the start judges by the problem
 same_fault : (p : DesignProblem) (bytes : List ℕ) (start : SoFar) → start ≡ record { problem = p; sets = [] } →
-    text_fault (set_rules start.problem.paths) bytes ≡ set_fault p bytes
-same_fault p bytes start is = ap (λ (s : SoFar). text_fault (set_rules s.problem.paths) bytes) is
+    text_fault (set_rules start.problem.requests) bytes ≡ set_fault p bytes
+same_fault p bytes start is = ap (λ (s : SoFar). text_fault (set_rules s.problem.requests) bytes) is
 
 pub read_made : (p : DesignProblem) (bytes : List ℕ) (start now : SoFar) (sets : List (List ℕ)) →
-    start ≡ record { problem = p; sets = [] } → text_fault (set_rules start.problem.paths) bytes ≡ None →
+    start ≡ record { problem = p; sets = [] } → text_fault (set_rules start.problem.requests) bytes ≡ None →
     HasTaken start now (statements (lines bytes)) → sets ≡ now.sets → (set_fault p bytes ≡ None) × AreSaid bytes sets
 read_made p bytes start now sets is none has sets_are = (
   sym (same_fault p bytes start is) ∙ none,
@@ -114,7 +114,7 @@ read_lawful p start now before sets is has lawful =
     subst (λ (q : DesignProblem). AreSetsOf q sets) (has.problem ∙ ap (λ (s : SoFar). s.problem) is) lawful
 
 pub read_refused : (p : DesignProblem) (bytes : List ℕ) (start : SoFar) (refusal : Refusal SetFault ℕ) →
-    start ≡ record { problem = p; sets = [] } → TellsFault (text_fault (set_rules start.problem.paths) bytes) refusal →
+    start ≡ record { problem = p; sets = [] } → TellsFault (text_fault (set_rules start.problem.requests) bytes) refusal →
     TellsFault (set_fault p bytes) refusal
 read_refused p bytes start refusal is tells =
     subst (λ (o : Option (FaultyLine SetFault)). TellsFault o refusal) (same_fault p bytes start is) tells

@@ -2,18 +2,20 @@
 use Rattle.std.specs.Prelude.{IsPermutation, Contains}
 use Rattle.std.specs.List.{list_any, concat, AllZip}
 use Rattle.std.specs.Cmp.{nat_eq_equiv}
-use Rattle.std.proofs.Common.{inl, inr, ◌⊎◌, ◌≡◌, ◌≢◌, ℕ, zero, suc, ◌<◌, ◌≤◌, refl, sym, ◌∙◌, ap, subst, List, [], ◌∷◌, ◌++◌, length, get_or, replicate, All, Bool, true, false, not, ◌||◌, eqb, ltb, arith, append-nil}
+use Rattle.std.proofs.Common.{inl, inr, ◌⊎◌, ◌≡◌, ◌≢◌, ℕ, zero, suc, ◌<◌, ◌≤◌, refl, sym, ◌∙◌, ap, subst, List, [], ◌∷◌, ◌++◌, length, get_or, set, length-set, replicate, All, Bool, true, false, not, ◌||◌, eqb, ltb, arith, append-nil}
 use Rattle.std.proofs.lemmas.Bool.{or_parts, or_left, or_right, and_parts, eqb-true, ltb-true, ltb-false, not-false, false≢true}
 use Rattle.std.proofs.lemmas.List.{nil_from_length, length-replicate, append_assoc}
-use Rattle.std.proofs.lemmas.List.Elements.{All-push, All-nil, All-contains, Contains-push_cases, Contains-get_or}
+use Rattle.std.proofs.lemmas.List.Elements.{All-push, All-nil, All-head, All-tail, All-weaker, All-contains, Contains-push_cases, Contains-get_or}
 use Rattle.std.proofs.lemmas.List.Folds.{list_any-append, concat-append}
 use Rattle.std.proofs.lemmas.List.Quantifiers.{all_pairs_push}
 use Rattle.std.proofs.lemmas.List.Sorted.{IsPermutation-refl, IsPermutation-sym, IsPermutation-append, length_permutation, All-permutation, Contains-permutation, list_any-IsPermutation}
 use Rattle.std.proofs.lemmas.Map.Views.{list_any-from_Contains}
 use Rattle.cost_base.proofs.ByteLemmas.{same_bytes-same}
 use Rattle.cost_base.proofs.ListLemmas.{none_passes}
+use Rattle.cost_base.specs.Marks.{AreMarked, is_marked, is_one_of}
+use Rattle.cost_base.proofs.MarkLaws.{clear_marks, marked_none, marked_rest}
 use Rattle.area_graph.specs.Distances.{AreEdgeMarks}
-use Rattle.area_graph.proofs.ExcludedMarks.{no_marks}
+use Rattle.area_graph.proofs.ExcludedMarks.{marks_more, no_marks}
 use Rattle.design_problem.specs.declared.problem.Request.{Request}
 use Rattle.design_problem.specs.Problems.{DesignProblem, request_at, request_ends}
 use Rattle.set_reader.specs.SpreadSets.{IsSetOf}
@@ -121,14 +123,14 @@ right_all requests earlier members (n ∷ more) right lawful =
     (right_all requests earlier (members ++ n ∷ []) more (right_push requests earlier members n right parts.0) parts.1)
 
 -- the numbers of a lawful line, in rising order, are a set
-set_is : (p : DesignProblem) (earlier numbers set : List ℕ) → 2 ≤ length numbers → AreRight p.paths earlier numbers → IsInOrder numbers set → IsSetOf p set
+set_is : (p : DesignProblem) (earlier numbers set : List ℕ) → 2 ≤ length numbers → AreRight p.requests earlier numbers → IsInOrder numbers set → IsSetOf p set
 set_is p earlier numbers set several right order =
     let back = IsPermutation-sym numbers set order.same in
     record {
       several = let count = length_permutation numbers set order.same in omega (arith, count, several);
       rising = order.rising;
-      known = All-permutation (λ i. i < length p.paths) numbers set order.same right.known;
-      whole = All-permutation (λ i. (request_at p.paths i).excluded ≡ []) numbers set order.same right.whole;
+      known = All-permutation (λ i. i < length p.requests) numbers set order.same right.known;
+      whole = All-permutation (λ i. (request_at p.requests i).excluded ≡ []) numbers set order.same right.whole;
       ends = λ i j one two. right.ends i j (Contains-permutation set numbers i back one) (Contains-permutation set numbers j back two);
       different = λ i j one two. right.different i j (Contains-permutation set numbers i back one) (Contains-permutation set numbers j back two);
     }
@@ -143,19 +145,35 @@ stands_in_sets (set ∷ sets) (suc k) d i within stands =
     ∙ or_right (stands_in i set) (stands_in i (concat sets))
     (stands_in_sets sets k d i (omega (arith, within)) stands)
 
-pub sets_begin : (p : DesignProblem) (sets : List (List ℕ)) (taken : List Bool) → sets ≡ [] → taken ≡ replicate (length p.paths) false → KeepsSets p sets taken
-sets_begin p sets taken none clear = rw (none, clear) (record {
-  count = length-replicate (length p.paths) false;
-  marks = no_marks (length p.paths);
+-- members that were marked beside earlier ones
+pub members_marked : (earlier members : List ℕ) (old new : List Bool) → All (λ m. m < length old) members →
+    AreMarked (is_one_of members) old new → AreEdgeMarks earlier old → AreEdgeMarks (earlier ++ members) new
+members_marked earlier [] old new known are edges =
+    subst (AreEdgeMarks (earlier ++ [])) (sym (marked_none old new are))
+    (subst (λ (es : List ℕ). AreEdgeMarks es old) (sym (append-nil earlier)) edges)
+members_marked earlier (m ∷ members) old new known are edges =
+    let here = All-head (λ n. n < length old) m members known in
+    let counted = length-set old m true in
+    let later = All-weaker (λ n. n < length old) (λ n. n < length (set old m true)) (λ n below. omega (arith, counted, below)) members
+    (All-tail (λ n. n < length old) m members known) in
+    subst (λ (es : List ℕ). AreEdgeMarks es new) (append_assoc earlier (m ∷ []) members)
+    (members_marked (earlier ++ m ∷ []) members (set old m true) new later (marked_rest m members old new here are)
+    (marks_more earlier m old edges here))
+
+pub sets_begin : (p : DesignProblem) (sets : List (List ℕ)) (taken : List Bool) → sets ≡ [] → length taken ≡ length p.requests →
+    ((k : ℕ) → is_marked taken k ≡ false) → KeepsSets p sets taken
+sets_begin p sets taken none counted clear = rw (none, clear_marks taken (length p.requests) counted clear) (record {
+  count = length-replicate (length p.requests) false;
+  marks = no_marks (length p.requests);
   lawful = record { each = All-nil (IsSetOf p); apart = λ i j d before within. absurd (omega (arith, within)) };
 })
 
 pub sets_more : (p : DesignProblem) (sets : List (List ℕ)) (numbers set : List ℕ) (taken after : List Bool) →
-    KeepsSets p sets taken → 2 ≤ length numbers → is_wrong_set p.paths (concat sets) numbers ≡ false →
+    KeepsSets p sets taken → 2 ≤ length numbers → is_wrong_set p.requests (concat sets) numbers ≡ false →
     IsInOrder numbers set → AreEdgeMarks (concat sets ++ set) after → length after ≡ length taken →
     KeepsSets p (sets ++ set ∷ []) after
 sets_more p sets numbers set taken after kept several lawful order marks count =
-    let right = right_all p.paths (concat sets) [] numbers (right_none p.paths (concat sets)) lawful in
+    let right = right_all p.requests (concat sets) [] numbers (right_none p.requests (concat sets)) lawful in
     let back = IsPermutation-sym numbers set order.same in
     record {
       count = count ∙ kept.count;

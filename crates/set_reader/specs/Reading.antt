@@ -80,7 +80,7 @@ set_rules requests = record {
 
 -- the fault for which a file of sets is refused
 abbrev pub set_fault : DesignProblem → List ℕ → Option (FaultyLine SetFault)
-set_fault p bytes = text_fault (set_rules p.paths) bytes
+set_fault p bytes = text_fault (set_rules p.requests) bytes
 
 -- the numbers of each `set` line of a file, in the order of the lines
 abbrev pub numbers_said : List ℕ → List (List ℕ)

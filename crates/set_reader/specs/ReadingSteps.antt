@@ -18,7 +18,7 @@ pub record SoFar : Type 0 where
 
 -- lawful sets, and marks of the requests that stand in them
 pub record KeepsSets (p : DesignProblem) (sets : List (List ℕ)) (taken : List Bool) : Type 0 where
-  pub count : length taken ≡ length p.paths
+  pub count : length taken ≡ length p.requests
   pub marks : AreEdgeMarks (concat sets) taken
   pub lawful : AreSetsOf p sets
 

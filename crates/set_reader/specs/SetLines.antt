@@ -15,15 +15,15 @@ abbrev pub several : Option (List ℕ) → Statement
 several (Some (i ∷ j ∷ more)) = Numbers (i ∷ j ∷ more)
 several _ = Off
 
--- `set I J ..`
+-- a `set I J ..` line, by the words behind the first
 abbrev pub set_line : List (List ℕ) → Statement
 set_line words = several (numbers_by_words words)
 
--- what the words behind the first one say
+-- what a line of a file of sets says, by its first word and those behind it
 abbrev pub set_statement_by : List ℕ → List (List ℕ) → Statement
 set_statement_by word words = if same_bytes word (codes "set") then set_line words else Off
 
--- what a statement of these words says
+-- what a line of a file of sets says, by its words
 abbrev pub set_statement_of : List (List ℕ) → Statement
 set_statement_of [] = Off
 set_statement_of (word ∷ words) = set_statement_by word words

@@ -8,10 +8,10 @@ use Rattle.design_problem.specs.Problems.{DesignProblem, request_ends, request_a
 pub record IsSetOf (p : DesignProblem) (set : List ℕ) : Type 0 where
   pub several : 2 ≤ length set
   pub rising : IsStrictlyIncreasing set
-  pub known : All (λ i. i < length p.paths) set
-  pub whole : All (λ i. (request_at p.paths i).excluded ≡ []) set
-  pub ends : (i j : ℕ) → Contains set i → Contains set j → request_ends (request_at p.paths i) ≡ request_ends (request_at p.paths j)
-  pub different : (i j : ℕ) → Contains set i → Contains set j → i ≢ j → (request_at p.paths i).path.edges ≢ (request_at p.paths j).path.edges
+  pub known : All (λ i. i < length p.requests) set
+  pub whole : All (λ i. (request_at p.requests i).excluded ≡ []) set
+  pub ends : (i j : ℕ) → Contains set i → Contains set j → request_ends (request_at p.requests i) ≡ request_ends (request_at p.requests j)
+  pub different : (i j : ℕ) → Contains set i → Contains set j → i ≢ j → (request_at p.requests i).path.edges ≢ (request_at p.requests j).path.edges
 
 -- sets of a problem's requests, none of which stands in two sets
 pub record AreSetsOf (p : DesignProblem) (sets : List (List ℕ)) : Type 0 where

@@ -1,4 +1,4 @@
 pub mod PrefixLemmas
-pub mod DepartureLemmas
+pub mod DeviationLemmas
 pub mod GrownTrees
 pub mod PutPrefixes

@@ -4,10 +4,9 @@ use Rattle.std.specs.Prelude.{◌≢◌}
 use Rattle.std.proofs.lemmas.List.{length-reverse, reverse-append}
 use Rattle.area_graph.specs.Area.{Area, FitsGraph}
 use Rattle.area_graph.specs.Paths.{Ends}
-use Rattle.spf_ties.specs.Distances.{Findings}
 use Rattle.set_separation.specs.declared.prefix_tree.Step.{Step}
 use Rattle.set_separation.specs.PrefixTrees.{IsGrown, IsPrefixTree, prefix_of_place, step_at}
-use Rattle.set_separation.proofs.DepartureLemmas.{place_short}
+use Rattle.set_separation.proofs.DeviationLemmas.{place_short}
 
 -- the edges, last first, from an earlier place to a place
 pub record IsPutBack (steps : List Step) (place earlier : ℕ) (path : List ℕ) : Type 0 where
@@ -53,14 +52,6 @@ put_more steps place earlier path new other known put is = record {
       ∙ append_assoc before (edge ∷ []) (reverse path)
       ∙ ap (λ (es : List ℕ). before ++ es) (sym (ap reverse is ∙ reverse-append path (edge ∷ [])));
 }
-
--- of a room whose path alone changed the path alone changes again
-pub rest_kept : (old now new : Findings) (path : List ℕ) → new ≡ record now { path = path } →
-    now ≡ record old { path = now.path } → new ≡ record old { path = new.path }
-rest_kept old now new path is rest =
-    is
-    ∙ ap (λ (r : Findings). let moved : Findings = record r { path = path } in moved) rest
-    ∙ ap (λ (es : List ℕ). let moved : Findings = record old { path = es } in moved) (sym (ap (λ (r : Findings). r.path) is))
 
 -- back at the root
 pub put_whole : (wanted done : List (List ℕ)) (steps : List Step) (tree : IsGrown wanted done steps) (place earlier : ℕ)

@@ -1,4 +1,4 @@
 pub mod Outsiders
 pub mod PrefixTrees
-pub mod Departures
+pub mod Deviations
 pub mod SeenTrees

@@ -1,5 +1,5 @@
--- The tree of the common prefixes of some paths: place 0 is the empty prefix, and each step leads from a place by an edge
--- to the place whose number is one above the step's.
+-- The tree of the common prefixes of some paths: place 0 is the empty prefix, and each step leads from a place by an
+-- edge to the place whose number is one above the step's.
 use Rattle.std.specs.Prelude.{◌≡◌, ℕ, ◌+◌, ◌<◌, ◌≤◌, ◌⊎◌, List, [], ◌∷◌, ◌++◌, length, slice_index_or, All, Contains}
 use Rattle.area_graph.specs.Area.{Area}
 use Rattle.area_graph.specs.Paths.{Ends, IsPathOf}
@@ -44,7 +44,8 @@ pub record IsGrown (wanted done : List (List ℕ)) (steps : List Step) : Type 0 
   pub grown : (i : ℕ) → i < length steps → prefix_of_place prefixes (i + 1) ≡ prefix_of_place prefixes (step_at steps i).place ++ (step_at steps i).edge ∷ []
   pub different : (k l : ℕ) → k ≤ length steps → l ≤ length steps → prefix_of_place prefixes k ≡ prefix_of_place prefixes l → k ≡ l
   pub begun : (k : ℕ) → k ≤ length steps → BeginsOneOf wanted (prefix_of_place prefixes k)
-  pub passed : (path : List ℕ) → Contains done path → (k e : ℕ) (rest : List ℕ) → k ≤ length steps → path ≡ prefix_of_place prefixes k ++ e ∷ rest → HasStep steps k e
+  pub passed : (path : List ℕ) → Contains done path → (k e : ℕ) (rest : List ℕ) → k ≤ length steps → path ≡ prefix_of_place prefixes k ++ e ∷ rest →
+      HasStep steps k e
 
 -- the tree of the prefixes of wanted paths of a request
 pub record IsPrefixTree (g : Area) (ends : Ends) (wanted : List (List ℕ)) (steps : List Step) : Type 0 where

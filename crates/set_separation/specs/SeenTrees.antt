@@ -5,9 +5,9 @@ use Rattle.design_problem.specs.Problems.{request_ends}
 use Rattle.spf_ties.specs.Distances.{Findings}
 use Rattle.rival_separation.specs.declared.outlook.Outlook.{Outlook}
 use Rattle.rival_separation.specs.Outlooks.{lead_in}
-use Rattle.set_separation.specs.declared.departure.CostedTree.{CostedTree}
+use Rattle.set_separation.specs.declared.deviation.CostedTree.{CostedTree}
 use Rattle.set_separation.specs.declared.prefix_tree.Step.{Step}
-use Rattle.set_separation.specs.Departures.{ArePlaceCosts, Departs, IsTiedTree}
+use Rattle.set_separation.specs.Deviations.{ArePlaceCosts, DeviatesFromTree, IsTiedTree}
 use Rattle.set_separation.specs.Outsiders.{CostAtLeast, IsCheapestOutsider}
 use Rattle.set_separation.specs.PrefixTrees.{IsPrefixTree}
 
@@ -31,9 +31,9 @@ IsCosted o costed =
     ArePlaceCosts o.graph.now o.point.now costed.tree.now (length costed.tree.now) costed.costs.now
 
 -- at the vertex of a place the tree may be left by an edge, and with the cheapest way on from there it costs so much
-abbrev pub DepartsHere : Outlook → Findings → CostedTree → ℕ → ℕ → ℕ → Type 0
-DepartsHere o room costed =
-    Departs o.graph.now o.point.now (request_ends o.request.now) room costed.tree.now costed.costs.now
+abbrev pub DeviatesHere : Outlook → Findings → CostedTree → ℕ → ℕ → ℕ → Type 0
+DeviatesHere o room costed =
+    DeviatesFromTree o.graph.now o.point.now (request_ends o.request.now) room costed.tree.now costed.costs.now
 
 -- the cheapest outsider of a request's wanted paths, which costs less than the request's path and the scale
 abbrev pub IsCheapestOutsiderHere : Outlook → List (List ℕ) → List ℕ → Type 0
@@ -41,5 +41,5 @@ IsCheapestOutsiderHere o wanted es =
     IsCheapestOutsider o.graph.now o.point.now (request_ends o.request.now) wanted (lead_in o) es
 
 -- each outsider of a request's wanted paths costs at least what the request's path and the scale do
-abbrev pub AreOutsidersDear : Outlook → List (List ℕ) → Type 0
-AreOutsidersDear o wanted = CostAtLeast o.graph.now o.point.now (request_ends o.request.now) wanted (lead_in o)
+abbrev pub AreOutsidersDearHere : Outlook → List (List ℕ) → Type 0
+AreOutsidersDearHere o wanted = CostAtLeast o.graph.now o.point.now (request_ends o.request.now) wanted (lead_in o)

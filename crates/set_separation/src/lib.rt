@@ -2,9 +2,9 @@
 //! leaves the tree of the wanted paths' common prefixes at some place.
 #![tactic(auto)]
 
-mod departure;
+mod deviation;
 mod outsider;
 mod prefix_tree;
 
-pub use outsider::{find_outsider, find_outsider_at_hand, is_undercut};
+pub use outsider::{find_outsider, find_outsider_at_hand, paths_lead};
 pub use prefix_tree::{PrefixTree, Step};

@@ -2,19 +2,18 @@
 
 ghost use Rattle.std.specs.Prelude.{◌≡◌, ℕ, ◌+◌, ◌<◌, ◌≤◌, List, MatchBool, MatchOption, Some, length};
 ghost use Rattle.design_problem.specs.Problems.{request_ends};
-ghost use Rattle.rival_separation.specs.Offers.{IsBestOffer};
+ghost use Rattle.rival_separation.specs.Deviations.{IsBestDeviation};
 ghost use Rattle.rival_separation.specs.Outlooks.{CanCompare, FitsOutlook, HasItsPath, lead_in};
 ghost use Rattle.rival_separation.specs.declared.deviation.Deviation.{Deviation};
 ghost use Rattle.spf_ties.specs.Distances.{IsRoomFor};
-ghost use Rattle.set_separation.specs.Departures.{ArePlaceCosts, Departs};
+ghost use Rattle.set_separation.specs.Deviations.{ArePlaceCosts, DeviatesFromTree};
 ghost use Rattle.set_separation.specs.PrefixTrees.{IsGrown, prefix_of_place};
-ghost use Rattle.set_separation.specs.SeenTrees.{AreOutsidersDear, DepartsHere, HasPrefixTree, HasTiedTree};
+ghost use Rattle.set_separation.specs.SeenTrees.{AreOutsidersDearHere, DeviatesHere, HasPrefixTree, HasTiedTree};
 ghost use Rattle.set_separation.specs.SeenTrees.{IsCheapestOutsiderHere, IsCosted, IsTiedHere};
 
 use crate::PrefixTree;
-use crate::departure::{CostedTree, least_departure, put_place_costs};
-use area_graph::path_cost;
-use rival_separation::{Deviation, Outlook, find_distances, leave_by};
+use crate::deviation::{CostedTree, least_deviation, put_place_costs};
+use rival_separation::{Deviation, Outlook, find_distances, least_lead, leave_by};
 use spf_ties::Room;
 
 /// Makes the path that the room keeps the prefix of a place: its edges are found from the place back to the root, and
@@ -37,9 +36,9 @@ fn put_prefix(outlook: &Outlook<'_>, tree: &PrefixTree, place: usize, room: &mut
     room.reverse_path();
 }
 
-/// The departure of least cost, where it costs less than the wanted paths and the scale; `costs` then has what the
+/// The deviation of least cost, where it costs less than the wanted paths and the scale; `costs` then has what the
 /// places cost. The room has the distances to the request's end that are below that.
-fn cheap_departure(
+fn cheap_deviation(
     outlook: &Outlook<'_>,
     tree: &PrefixTree,
     costs: &mut [u128],
@@ -59,29 +58,27 @@ fn cheap_departure(
         (length tree.now) costs.new }
     ensures count { length costs.new ≡ length costs.old }
 
-    // The best departure costs less than the wanted paths and the scale, or no outsider does.
+    // The best deviation costs less than the wanted paths and the scale, or no outsider does.
     ensures best { MatchOption result ((wanted : List (List ℕ)) →
-        IsTiedHere outlook.now wanted tree.now → AreOutsidersDear outlook.now wanted)
-        (λ best. IsBestOffer (Departs outlook.now.graph.now outlook.now.point.now
+        IsTiedHere outlook.now wanted tree.now → AreOutsidersDearHere outlook.now wanted)
+        (λ best. IsBestDeviation (DeviatesFromTree outlook.now.graph.now outlook.now.point.now
         (request_ends outlook.now.request.now) room.now tree.now costs.new)
         (λ place e. place ≤ length tree.now) (Some best) × (best.cost < lead_in outlook.now)) }
 {
     outlook.graph.keeps_conditions();
     put_place_costs(outlook, tree, costs);
     let costed = CostedTree { tree, costs };
-    let best = match least_departure(outlook, room, &costed) {
+    let best = match least_deviation(outlook, room, &costed) {
         Some(best) => best,
         None => return None,
     };
-    let limit = path_cost(outlook.graph, &outlook.request.path, outlook.point)
-        + outlook.point.scale;
-    if limit <= best.cost {
+    if least_lead(outlook) <= best.cost {
         return None;
     }
     Some(best)
 }
 
-/// Makes the path that the room keeps the cheapest outsider: up to the place of the best departure it is
+/// Makes the path that the room keeps the cheapest outsider: up to the place of the best deviation it is
 /// that place's prefix.
 fn lay_out(outlook: &Outlook<'_>, costed: &CostedTree<'_>, best: Deviation, room: &mut Room)
     // The room has the distances below what the request's path and the scale cost at the point.
@@ -92,8 +89,8 @@ fn lay_out(outlook: &Outlook<'_>, costed: &CostedTree<'_>, best: Deviation, room
     requires tree { HasTiedTree outlook.now costed.now.tree.now }
     requires costs { IsCosted outlook.now costed.now }
 
-    // No departure costs less than this one, and it is below the wanted paths and the scale.
-    requires best { IsBestOffer (DepartsHere outlook.now room.old costed.now)
+    // No deviation costs less than this one, and it is below the wanted paths and the scale.
+    requires best { IsBestDeviation (DeviatesHere outlook.now room.old costed.now)
         (λ place e. place ≤ length costed.now.tree.now) (Some best) }
     requires cheap { best.cost < lead_in outlook.now }
 
@@ -134,10 +131,9 @@ pub fn find_outsider(
     // On true the room has the cheapest outsider; on false none costs less than path and scale.
     ensures outsider { (wanted : List (List ℕ)) → IsTiedHere outlook.now wanted tree.now →
         MatchBool result (IsCheapestOutsiderHere outlook.now wanted room.new.path)
-        (AreOutsidersDear outlook.now wanted) }
+        (AreOutsidersDearHere outlook.now wanted) }
 {
-    let cost = path_cost(outlook.graph, &outlook.request.path, outlook.point);
-    find_distances(outlook, cost + outlook.point.scale, room);
+    find_distances(outlook, least_lead(outlook), room);
     find_outsider_at_hand(outlook, tree, costs, room)
 }
 
@@ -167,9 +163,9 @@ pub fn find_outsider_at_hand(
     // On true the room has the cheapest outsider; on false none costs less than path and scale.
     ensures outsider { (wanted : List (List ℕ)) → IsTiedHere outlook.now wanted tree.now →
         MatchBool result (IsCheapestOutsiderHere outlook.now wanted room.new.path)
-        (AreOutsidersDear outlook.now wanted) }
+        (AreOutsidersDearHere outlook.now wanted) }
 {
-    match cheap_departure(outlook, tree, costs, room) {
+    match cheap_deviation(outlook, tree, costs, room) {
         Some(best) => {
             let costed = CostedTree { tree, costs };
             lay_out(outlook, &costed, best, room);
@@ -179,16 +175,11 @@ pub fn find_outsider_at_hand(
     }
 }
 
-/// Whether some wanted paths, which cost the same at a point, have an outsider that costs less than they and the scale.
-/// The request, the tree and `costs` are as in `find_outsider`; the room has the distances to the request's end that
-/// are below that, or more of them, as another request with that end and the same excluded edges may have left them.
-/// Takes no memory.
-pub fn is_undercut(
-    outlook: &Outlook<'_>,
-    tree: &PrefixTree,
-    costs: &mut [u128],
-    room: &Room,
-) -> bool
+/// Whether some wanted paths, which cost the same at a point, lead there by the scale: each outsider costs at least
+/// what they and the scale do. The request, the tree and `costs` are as in `find_outsider`; the room has the distances
+/// to the request's end that are below that, or more of them, as another request with that end and the same excluded
+/// edges may have left them. Takes no memory.
+pub fn paths_lead(outlook: &Outlook<'_>, tree: &PrefixTree, costs: &mut [u128], room: &Room) -> bool
     // The room has the distances below what the request's path and the scale cost at the point.
     requires fits { FitsOutlook outlook.now }
     requires path { HasItsPath outlook.now }
@@ -199,15 +190,15 @@ pub fn is_undercut(
     requires enough { length tree.now + 1 ≤ length costs.old }
     ensures count { length costs.new ≡ length costs.old }
 
-    // It tells whether some outsider costs less than the wanted paths and the scale.
+    // It tells whether each outsider costs at least what the wanted paths and the scale do.
     ensures outsider { (wanted : List (List ℕ)) → IsTiedHere outlook.now wanted tree.now →
         MatchBool result
-        (AreOutsidersDear outlook.now wanted → ⊥)
-        (AreOutsidersDear outlook.now wanted) }
+        (AreOutsidersDearHere outlook.now wanted)
+        (AreOutsidersDearHere outlook.now wanted → ⊥) }
 {
     outlook.graph.keeps_conditions();
-    match cheap_departure(outlook, tree, costs, room) {
-        Some(_) => true,
-        None => false,
+    match cheap_deviation(outlook, tree, costs, room) {
+        Some(_) => false,
+        None => true,
     }
 }

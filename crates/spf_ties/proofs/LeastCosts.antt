@@ -88,7 +88,8 @@ pub least_at : (g : Area) (p : Point) (excluded : List ℕ) (t v limit near : �
     AreReached g p excluded t near d → SettledBelow (length g.edges) g p excluded d →
     IsLeastBelow g p (record { start = v; end = t; excluded = excluded }) limit (get_or (map (cost_below near) d) v None)
 least_at g p excluded t v limit near d graph metrics fits is_near target count start reached settled =
-    subst (IsLeastBelow g p (record { start = v; end = t; excluded = excluded }) limit) (sym (get_or-map (cost_below near) d v 0 None (omega (arith, start, count))))
+    subst (IsLeastBelow g p (record { start = v; end = t; excluded = excluded }) limit) (sym
+    (get_or-map (cost_below near) d v 0 None (omega (arith, start, count))))
     (least_below g p excluded t v limit near d graph metrics fits is_near target count start reached settled)
 
 -- what is found below more than a path can cost is found at all

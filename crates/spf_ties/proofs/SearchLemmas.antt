@@ -7,34 +7,32 @@ use Rattle.std.proofs.lemmas.List.Sorted.{All-permutation, Contains-permutation}
 use Rattle.std.proofs.lemmas.List.Sums.{sum_by-cons, count_by-le-length, length-filter}
 use native.Mathlib.Decide.{ℕ_discrete}
 use Rattle.cost_base.specs.Lists.{Lacks, numbers_from}
-use Rattle.cost_base.proofs.ListLemmas.{length-numbers_from, all_kept, kept_all, all_lacks}
+use Rattle.cost_base.proofs.ListLemmas.{length-numbers_from, all_kept, kept_all, all_lacks, contains_later}
+use Rattle.cost_base.specs.Marks.{is_marked}
 use Rattle.area_graph.specs.declared.Point.{Point}
 use Rattle.area_graph.specs.Area.{Area, edge_at, edges_in, no_edge, FitsGraph, FitsEdge}
 use Rattle.area_graph.specs.Costs.{price_at}
 use Rattle.area_graph.specs.Distances.{far, WalkWithin, through}
 use Rattle.area_graph.proofs.PassSteps.{reached_by_walk, reached_none}
-use Rattle.spf_ties.specs.declared.heap.Entry.{Entry}
-use Rattle.spf_ties.specs.Searches.{AreSearchNumbers, is_settled, open_edges, MayWait, LeadsToLast, Underway}
+use Rattle.spf_ties.specs.declared.heap.WaitingVertex.{WaitingVertex}
+use Rattle.spf_ties.specs.Searches.{AreSearchNumbers, open_edges, MayWait, LeadsToLast, Underway}
 
 clash : {P : Type 0} → true ≡ false → P
 clash h = cc
 
 -- what waits for a vertex
-abbrev pub entry_of : ℕ → ℕ → Entry
+abbrev pub entry_of : ℕ → ℕ → WaitingVertex
 entry_of x v = record { distance = x; vertex = v }
 
 -- an element is the first, or stands behind it
-contains_cases : (x y : Entry) (xs : List Entry) → Contains (x ∷ xs) y → (x ≡ y) ⊎ Contains xs y
+contains_cases : (x y : WaitingVertex) (xs : List WaitingVertex) → Contains (x ∷ xs) y → (x ≡ y) ⊎ Contains xs y
 contains_cases x y xs has = by_place has.0 has.1 has.2
   where
     by_place : (k : ℕ) → k < length (x ∷ xs) → get_or (x ∷ xs) k y ≡ y → (x ≡ y) ⊎ Contains xs y
     by_place zero within is = inl is
     by_place (suc k) within is = inr (k, omega arith, is)
 
-contains_behind : (x y : Entry) (xs : List Entry) → Contains xs y → Contains (x ∷ xs) y
-contains_behind x y xs has = (suc has.0, (let within = has.1 in omega arith), has.2)
-
-contains_first : (x : Entry) (xs : List Entry) → Contains (x ∷ xs) x
+contains_first : (x : WaitingVertex) (xs : List WaitingVertex) → Contains (x ∷ xs) x
 contains_first x xs = (zero, omega arith, refl)
 
 -- an edge into a vertex is among those into it
@@ -48,15 +46,15 @@ pub in_known : (g : Area) (v : ℕ) → All (λ e. e < length g.edges) (edges_in
 in_known g v = all_kept (λ e. e < length g.edges) (λ e. eqb (edge_at g e).to v) 0 (length g.edges) (λ e above below yes. omega arith)
 
 -- at the start no vertex is settled
-none_settled : (n v : ℕ) → is_settled (replicate n false) v ≡ false
+none_settled : (n v : ℕ) → is_marked (replicate n false) v ≡ false
 none_settled zero v = refl
 none_settled (suc n) zero = refl
 none_settled (suc n) (suc v) = none_settled n v
 
 -- an entry of a settled vertex is passed over
 pub passed_over : (g : Area) (p : Point) (excluded : List ℕ) (t limit least : ℕ) (d : List ℕ) (settled : List Bool)
-    (entry : Entry) (waiting rest : List Entry) → Underway g p excluded t limit least [] d settled waiting →
-    IsPermutation waiting (entry ∷ rest) → is_settled settled entry.vertex ≡ true →
+    (entry : WaitingVertex) (waiting rest : List WaitingVertex) → Underway g p excluded t limit least [] d settled waiting →
+    IsPermutation waiting (entry ∷ rest) → is_marked settled entry.vertex ≡ true →
     Underway g p excluded t limit least [] d settled rest
 passed_over g p excluded t limit least d settled entry waiting rest under moved done = record {
   reached = under.reached;
@@ -66,7 +64,7 @@ passed_over g p excluded t limit least d settled entry waiting rest under moved 
       elim (contains_cases entry (entry_of (get_or d v 0) v) rest
       (Contains-permutation waiting (entry ∷ rest) (entry_of (get_or d v 0) v) moved
       (under.waits v known unsettled near))) [
-        | inl same ↦ clash (sym done ∙ ap (λ (e : Entry). is_settled settled e.vertex) same ∙ unsettled)
+        | inl same ↦ clash (sym done ∙ ap (λ (e : WaitingVertex). is_marked settled e.vertex) same ∙ unsettled)
         | inr later ↦ later
       ];
   entries = All-tail (MayWait limit least d) entry rest (All-permutation (MayWait limit least d) waiting (entry ∷ rest) moved under.entries);
@@ -76,9 +74,9 @@ passed_over g p excluded t limit least d settled entry waiting rest under moved 
 
 -- the nearest vertex that waits is settled, and the edges into it are yet to be looked at
 pub settled_next : (g : Area) (p : Point) (excluded : List ℕ) (t limit least : ℕ) (d : List ℕ) (settled : List Bool)
-    (entry : Entry) (waiting rest : List Entry) → AreSearchNumbers g p d settled →
+    (entry : WaitingVertex) (waiting rest : List WaitingVertex) → AreSearchNumbers g p d settled →
     Underway g p excluded t limit least [] d settled waiting → IsPermutation waiting (entry ∷ rest) →
-    All (λ other. entry.distance ≤ other.distance) waiting → is_settled settled entry.vertex ≡ false →
+    All (λ other. entry.distance ≤ other.distance) waiting → is_marked settled entry.vertex ≡ false →
     Underway g p excluded t limit entry.distance (edges_in g entry.vertex) d (set settled entry.vertex true) rest
 settled_next g p excluded t limit least d settled entry waiting rest front under moved nearest unsettled = record {
   reached = under.reached;
@@ -102,16 +100,16 @@ settled_next g p excluded t limit least d settled entry waiting rest front under
     may_wait = All-tail (MayWait limit least d) entry rest (All-permutation (MayWait limit least d) waiting (entry ∷ rest) moved under.entries)
 
     nearer : All (λ other. entry.distance ≤ other.distance) rest
-    nearer = All-tail (λ (other : Entry). entry.distance ≤ other.distance) entry rest
-        (All-permutation (λ (other : Entry). entry.distance ≤ other.distance) waiting (entry ∷ rest) moved nearest)
+    nearer = All-tail (λ (other : WaitingVertex). entry.distance ≤ other.distance) entry rest
+        (All-permutation (λ (other : WaitingVertex). entry.distance ≤ other.distance) waiting (entry ∷ rest) moved nearest)
 
     within : entry.vertex < length settled
     within = let known = first.known in let count = front.count in let marks = front.marks in omega arith
 
-    here : is_settled (set settled entry.vertex true) entry.vertex ≡ true
+    here : is_marked (set settled entry.vertex true) entry.vertex ≡ true
     here = get_or-set_same settled entry.vertex true false within
 
-    there : (v : ℕ) → v ≢ entry.vertex → is_settled (set settled entry.vertex true) v ≡ is_settled settled v
+    there : (v : ℕ) → v ≢ entry.vertex → is_marked (set settled entry.vertex true) v ≡ is_marked settled v
     there v other = get_or-set_other settled entry.vertex v true false other
 
     at_most : get_or d entry.vertex 0 ≤ entry.distance
@@ -119,24 +117,24 @@ settled_next g p excluded t limit least d settled entry waiting rest front under
 
     at_least : entry.distance ≤ get_or d entry.vertex 0
     at_least = elim (cases_lt (get_or d entry.vertex 0) limit) [
-      | inl near ↦ All-contains (λ (other : Entry). entry.distance ≤ other.distance) waiting (entry_of (get_or d entry.vertex 0) entry.vertex) nearest
+      | inl near ↦ All-contains (λ (other : WaitingVertex). entry.distance ≤ other.distance) waiting (entry_of (get_or d entry.vertex 0) entry.vertex) nearest
           (under.waits entry.vertex first.known unsettled near)
       | inr more ↦ omega (arith, first.near, more)
     ]
 
-    before : (v : ℕ) → is_settled (set settled entry.vertex true) v ≡ true → get_or d v 0 ≤ entry.distance
+    before : (v : ℕ) → is_marked (set settled entry.vertex true) v ≡ true → get_or d v 0 ≤ entry.distance
     before v done = elim (ℕ_discrete v entry.vertex) [
       | yes same ↦ let value = ap (λ (i : ℕ). get_or d i 0) same in let most = first.not_below in omega arith
       | no other ↦ let earlier = under.before v (sym (there v other) ∙ done) in let later = first.later in omega arith
     ]
 
-    waits : (v : ℕ) → v < length d → is_settled (set settled entry.vertex true) v ≡ false → get_or d v 0 < limit → Contains rest (entry_of (get_or d v 0) v)
+    waits : (v : ℕ) → v < length d → is_marked (set settled entry.vertex true) v ≡ false → get_or d v 0 < limit → Contains rest (entry_of (get_or d v 0) v)
     waits v known still near = elim (ℕ_discrete v entry.vertex) [
-      | yes same ↦ clash (sym here ∙ ap (is_settled (set settled entry.vertex true)) (sym same) ∙ still)
+      | yes same ↦ clash (sym here ∙ ap (is_marked (set settled entry.vertex true)) (sym same) ∙ still)
       | no other ↦ elim (contains_cases entry (entry_of (get_or d v 0) v) rest
           (Contains-permutation waiting (entry ∷ rest) (entry_of (get_or d v 0) v) moved
           (under.waits v known (sym (there v other) ∙ still) near))) [
-            | inl same ↦ absurd (other (sym (ap (λ (e : Entry). e.vertex) same)))
+            | inl same ↦ absurd (other (sym (ap (λ (e : WaitingVertex). e.vertex) same)))
             | inr later ↦ later
           ]
     ]
@@ -144,11 +142,11 @@ settled_next g p excluded t limit least d settled entry waiting rest front under
     leads : (e : ℕ) → e < length g.edges → (edge_at g e).to ≡ entry.vertex → LeadsToLast g entry.distance d (set settled entry.vertex true) e
     leads e known to = record {
       known = known;
-      is_settled_there = ap (is_settled (set settled entry.vertex true)) to ∙ here;
+      is_settled_there = ap (is_marked (set settled entry.vertex true)) to ∙ here;
       last = let value = ap (λ (i : ℕ). get_or d i 0) to in let least = at_least in omega arith;
     }
 
-    closed : (e : ℕ) → e < length g.edges → Lacks excluded e → is_settled (set settled entry.vertex true) (edge_at g e).to
+    closed : (e : ℕ) → e < length g.edges → Lacks excluded e → is_marked (set settled entry.vertex true) (edge_at g e).to
         ≡ true → Lacks (edges_in g entry.vertex) e → get_or d (edge_at g e).from 0 ≤ through p (edge_at g e) d
     closed e known left done lacks = elim (ℕ_discrete (edge_at g e).to entry.vertex) [
       | yes same ↦ absurd (not_lacked g entry.vertex e known same lacks)
@@ -157,7 +155,7 @@ settled_next g p excluded t limit least d settled entry waiting rest front under
 
 -- an edge that is excluded, or leads to no smaller number
 pub kept : (g : Area) (p : Point) (excluded : List ℕ) (t limit least e : ℕ) (todo : List ℕ) (d : List ℕ)
-    (settled : List Bool) (waiting : List Entry) → Underway g p excluded t limit least (e ∷ todo) d settled waiting →
+    (settled : List Bool) (waiting : List WaitingVertex) → Underway g p excluded t limit least (e ∷ todo) d settled waiting →
     (Lacks excluded e → get_or d (edge_at g e).from 0 ≤ through p (edge_at g e) d) →
     Underway g p excluded t limit least todo d settled waiting
 kept g p excluded t limit least e todo d settled waiting under short = record {
@@ -175,7 +173,7 @@ kept g p excluded t limit least e todo d settled waiting under short = record {
 
 -- an edge that leads to a smaller number: it is lowered, and its vertex waits under it
 pub lowered : (g : Area) (p : Point) (excluded : List ℕ) (t limit least e : ℕ) (todo : List ℕ) (d : List ℕ)
-    (settled : List Bool) (waiting new : List Entry) → FitsGraph g → AreSearchNumbers g p d settled →
+    (settled : List Bool) (waiting new : List WaitingVertex) → FitsGraph g → AreSearchNumbers g p d settled →
     Underway g p excluded t limit least (e ∷ todo) d settled waiting → Lacks excluded e →
     through p (edge_at g e) d < get_or d (edge_at g e).from 0 →
     IsPermutation (entry_of (through p (edge_at g e) d) (edge_at g e).from ∷ waiting) new →
@@ -224,10 +222,10 @@ lowered g p excluded t limit least e todo d settled waiting new graph front unde
     bound : get_or d (edge_at g e).from 0 ≤ limit
     bound = under.bounded (edge_at g e).from 0 within
 
-    unsettled : is_settled settled (edge_at g e).from ≡ false
-    unsettled = go (is_settled settled (edge_at g e).from) refl
+    unsettled : is_marked settled (edge_at g e).from ≡ false
+    unsettled = go (is_marked settled (edge_at g e).from) refl
       where
-        go : (b : Bool) → is_settled settled (edge_at g e).from ≡ b → is_settled settled (edge_at g e).from ≡ false
+        go : (b : Bool) → is_marked settled (edge_at g e).from ≡ b → is_marked settled (edge_at g e).from ≡ false
         go false is = is
         go true is = let early = under.before (edge_at g e).from is in let last = head.last in absurd (omega (arith, less))
 
@@ -248,8 +246,8 @@ lowered g p excluded t limit least e todo d settled waiting new graph front unde
     there : (v : ℕ) → v ≢ (edge_at g e).from → get_or (set d (edge_at g e).from (through p (edge_at g e) d)) v 0 ≡ get_or d v 0
     there v other = get_or-set_other d (edge_at g e).from v (through p (edge_at g e) d) 0 other
 
-    settled_same : (v : ℕ) → is_settled settled v ≡ true → get_or (set d (edge_at g e).from (through p (edge_at g e) d)) v 0 ≡ get_or d v 0
-    settled_same v done = there v (λ same. clash (sym done ∙ ap (is_settled settled) same ∙ unsettled))
+    settled_same : (v : ℕ) → is_marked settled v ≡ true → get_or (set d (edge_at g e).from (through p (edge_at g e) d)) v 0 ≡ get_or d v 0
+    settled_same v done = there v (λ same. clash (sym done ∙ ap (is_marked settled) same ∙ unsettled))
 
     not_more : (v : ℕ) → get_or (set d (edge_at g e).from (through p (edge_at g e) d)) v 0 ≤ get_or d v 0
     not_more v = elim (ℕ_discrete v (edge_at g e).from) [
@@ -277,7 +275,7 @@ lowered g p excluded t limit least e todo d settled waiting new graph front unde
       not_below = let old = may.not_below in let less = not_more (get_or waiting i other).vertex in omega arith;
     }
 
-    waits : (v : ℕ) → v < length (set d (edge_at g e).from (through p (edge_at g e) d)) → is_settled settled v ≡ false →
+    waits : (v : ℕ) → v < length (set d (edge_at g e).from (through p (edge_at g e) d)) → is_marked settled v ≡ false →
         get_or (set d (edge_at g e).from (through p (edge_at g e) d)) v 0 < limit →
         Contains new (entry_of (get_or (set d (edge_at g e).from (through p (edge_at g e) d)) v 0) v)
     waits v known still near = elim (ℕ_discrete v (edge_at g e).from) [
@@ -290,11 +288,11 @@ lowered g p excluded t limit least e todo d settled waiting new graph front unde
           let value = there v other in
           subst (λ (y : ℕ). Contains new (entry_of y v)) (sym value)
           (Contains-permutation (entry_of x from ∷ waiting) new (entry_of (get_or d v 0) v) moved
-          (contains_behind (entry_of x from) (entry_of (get_or d v 0) v) waiting
+          (contains_later (entry_of x from) waiting (entry_of (get_or d v 0) v)
           (under.waits v (let same = size in omega arith) still (subst (λ (y : ℕ). y < limit) value near))))
     ]
 
-    closed : (i : ℕ) → i < length g.edges → Lacks excluded i → is_settled settled (edge_at g i).to ≡ true → Lacks todo i →
+    closed : (i : ℕ) → i < length g.edges → Lacks excluded i → is_marked settled (edge_at g i).to ≡ true → Lacks todo i →
         get_or (set d (edge_at g e).from (through p (edge_at g e) d)) (edge_at g i).from 0
         ≤ through p (edge_at g i) (set d (edge_at g e).from (through p (edge_at g e) d))
     closed i known there_left done lacks =
@@ -312,7 +310,7 @@ bounded_begun : (t limit n : ℕ) → All (λ x. x ≤ limit) (set (replicate n 
 bounded_begun t limit n = All-set (λ x. x ≤ limit) (replicate n limit) t 0 (omega arith) (All-replicate (λ x. x ≤ limit) n limit (omega arith))
 
 -- the target alone waits at the start
-pub begun : (g : Area) (p : Point) (excluded : List ℕ) (t limit n m : ℕ) (waiting : List Entry) → t < n →
+pub begun : (g : Area) (p : Point) (excluded : List ℕ) (t limit n m : ℕ) (waiting : List WaitingVertex) → t < n →
     IsPermutation (entry_of 0 t ∷ []) waiting →
     Underway g p excluded t limit 0 [] (set (replicate n limit) t 0) (replicate m false) waiting
 begun g p excluded t limit n m waiting within moved = record {
@@ -364,37 +362,37 @@ front_begun g p t limit n m most count marks = record {
 }
 
 -- what is settled is no longer open
-open_step : (settled : List Bool) (v to : ℕ) → v < length settled → is_settled settled v ≡ false →
-    cond (not (is_settled settled to)) 1 0 ≡ cond (not (is_settled (set settled v true) to)) 1 0 + cond (eqb to v) 1 0
+open_step : (settled : List Bool) (v to : ℕ) → v < length settled → is_marked settled v ≡ false →
+    cond (not (is_marked settled to)) 1 0 ≡ cond (not (is_marked (set settled v true) to)) 1 0 + cond (eqb to v) 1 0
 open_step settled v to within unsettled = elim (ℕ_discrete to v) [
   | yes same ↦
       let counted : Bool → ℕ = λ b. cond b 1 0 in
-      let old : is_settled settled to ≡ false = ap (is_settled settled) same ∙ unsettled in
-      let new : is_settled (set settled v true) to ≡ true = ap (is_settled (set settled v true)) same ∙ get_or-set_same settled v true false within in
+      let old : is_marked settled to ≡ false = ap (is_marked settled) same ∙ unsettled in
+      let new : is_marked (set settled v true) to ≡ true = ap (is_marked (set settled v true)) same ∙ get_or-set_same settled v true false within in
       ap (λ b. counted (not b)) old ∙ sym (ap (λ b. counted (not b) + cond (eqb to v) 1 0) new ∙ ap (λ b. 0 + counted b) (eq-eqb to v same))
   | no other ↦
       let counted : Bool → ℕ = λ b. cond b 1 0 in
-      let same : is_settled (set settled v true) to ≡ is_settled settled to = get_or-set_other settled v to true false other in
+      let same : is_marked (set settled v true) to ≡ is_marked settled to = get_or-set_other settled v to true false other in
       let apart = ap counted (ne_eqb to v other) in
       let open_same = ap (λ b. counted (not b)) same in
       omega arith
 ]
 
-open_less : (g : Area) (settled : List Bool) (v : ℕ) → v < length settled → is_settled settled v ≡ false →
-    (xs : List ℕ) → count_by (λ e. not (is_settled settled (edge_at g e).to)) xs
-    ≡ count_by (λ e. not (is_settled (set settled v true) (edge_at g e).to)) xs
+open_less : (g : Area) (settled : List Bool) (v : ℕ) → v < length settled → is_marked settled v ≡ false →
+    (xs : List ℕ) → count_by (λ e. not (is_marked settled (edge_at g e).to)) xs
+    ≡ count_by (λ e. not (is_marked (set settled v true) (edge_at g e).to)) xs
     + count_by (λ e. eqb (edge_at g e).to v) xs
 open_less g settled v within unsettled [] = refl
 open_less g settled v within unsettled (e ∷ xs) =
     let rest = open_less g settled v within unsettled xs in
     let step = open_step settled v (edge_at g e).to within unsettled in
-    let a = sum_by-cons (λ e. cond (not (is_settled settled (edge_at g e).to)) 1 0) e xs in
-    let b = sum_by-cons (λ e. cond (not (is_settled (set settled v true) (edge_at g e).to)) 1 0) e xs in
+    let a = sum_by-cons (λ e. cond (not (is_marked settled (edge_at g e).to)) 1 0) e xs in
+    let b = sum_by-cons (λ e. cond (not (is_marked (set settled v true) (edge_at g e).to)) 1 0) e xs in
     let c = sum_by-cons (λ e. cond (eqb (edge_at g e).to v) 1 0) e xs in
     omega arith
 
 -- a vertex that is settled takes the edges into it from those that are open
-pub open_settled : (g : Area) (settled : List Bool) (v : ℕ) → v < length settled → is_settled settled v ≡ false →
+pub open_settled : (g : Area) (settled : List Bool) (v : ℕ) → v < length settled → is_marked settled v ≡ false →
     open_edges g settled ≡ open_edges g (set settled v true) + length (edges_in g v)
 open_settled g settled v within unsettled =
     let less = open_less g settled v within unsettled (numbers_from 0 (length g.edges)) in
@@ -403,6 +401,6 @@ open_settled g settled v within unsettled =
 
 pub open-le : (g : Area) (settled : List Bool) → open_edges g settled ≤ length g.edges
 open-le g settled =
-    let most = count_by-le-length (λ e. not (is_settled settled (edge_at g e).to)) (numbers_from 0 (length g.edges)) in
+    let most = count_by-le-length (λ e. not (is_marked settled (edge_at g e).to)) (numbers_from 0 (length g.edges)) in
     let count = length-numbers_from 0 (length g.edges) in
     omega arith

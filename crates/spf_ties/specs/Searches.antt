@@ -1,12 +1,13 @@
 -- A search for least costs on its way: vertices are settled one by one, the nearest to the target first. No public
 -- clause cites it.
-use Rattle.std.specs.Prelude.{◌≡◌, ℕ, ◌+◌, ◌^◌, ◌<◌, ◌≤◌, List, length, slice_index, slice_index_or, All, Contains, Bool, true, false, not, count_by}
+use Rattle.std.specs.Prelude.{◌≡◌, ℕ, ◌+◌, ◌^◌, ◌<◌, ◌≤◌, List, length, slice_index, All, Contains, Bool, true, false, not, count_by}
 use Rattle.cost_base.specs.Lists.{Lacks, numbers_from}
+use Rattle.cost_base.specs.Marks.{is_marked}
 use Rattle.area_graph.specs.declared.Point.{Point}
 use Rattle.area_graph.specs.Area.{Area, edge_at}
 use Rattle.area_graph.specs.declared.subgraph.Subgraph.{Subgraph}
 use Rattle.area_graph.specs.Distances.{far, AreReached, FitsSubgraph, through}
-use Rattle.spf_ties.specs.declared.heap.Entry.{Entry}
+use Rattle.spf_ties.specs.declared.heap.WaitingVertex.{WaitingVertex}
 use Rattle.spf_ties.specs.declared.search.Front.{Front}
 use Rattle.spf_ties.specs.declared.search.Width.{Width}
 use Rattle.spf_ties.specs.declared.search.Width.TheVariants.{Narrow, Wide}
@@ -18,16 +19,12 @@ pub record AreSearchNumbers (g : Area) (p : Point) (d : List ℕ) (settled : Lis
   pub marks : length settled ≡ length g.vertices
   pub bounded : All (λ x. x ≤ far p) d
 
--- the vertex is settled in a search: its least cost is known
-abbrev pub is_settled : List Bool → ℕ → Bool
-is_settled settled v = slice_index_or settled v false
-
 -- how many edges lead to a vertex that isn't settled
 abbrev pub open_edges : Area → List Bool → ℕ
-open_edges g settled = count_by (λ e. not (is_settled settled (edge_at g e).to)) (numbers_from 0 (length g.edges))
+open_edges g settled = count_by (λ e. not (is_marked settled (edge_at g e).to)) (numbers_from 0 (length g.edges))
 
 -- an entry tells of a vertex, at no more than the limit and no less than its number and than what was settled last
-pub record MayWait (limit least : ℕ) (d : List ℕ) (entry : Entry) : Type 0 where
+pub record MayWait (limit least : ℕ) (d : List ℕ) (entry : WaitingVertex) : Type 0 where
   pub known : entry.vertex < length d
   pub near : entry.distance ≤ limit
   pub later : least ≤ entry.distance
@@ -36,25 +33,25 @@ pub record MayWait (limit least : ℕ) (d : List ℕ) (entry : Entry) : Type 0 w
 -- an edge leads to the vertex that was settled last
 pub record LeadsToLast (g : Area) (least : ℕ) (d : List ℕ) (settled : List Bool) (e : ℕ) : Type 0 where
   pub known : e < length g.edges
-  pub is_settled_there : is_settled settled (edge_at g e).to ≡ true
+  pub is_settled_there : is_marked settled (edge_at g e).to ≡ true
   pub last : least ≤ slice_index d (edge_at g e).to
 
 -- where a search for least costs below a limit stands that settled a vertex at `least` last, and has yet to look at the
 -- edges `todo` into it
 pub record Underway (g : Area) (p : Point) (excluded : List ℕ) (t limit least : ℕ) (todo : List ℕ) (d : List ℕ)
-    (settled : List Bool) (waiting : List Entry) : Type 0 where
+    (settled : List Bool) (waiting : List WaitingVertex) : Type 0 where
   pub reached : AreReached g p excluded t limit d
   pub bounded : All (λ x. x ≤ limit) d
-  pub before : (v : ℕ) → is_settled settled v ≡ true → slice_index d v ≤ least
-  pub waits : (v : ℕ) → v < length d → is_settled settled v ≡ false → slice_index d v < limit →
+  pub before : (v : ℕ) → is_marked settled v ≡ true → slice_index d v ≤ least
+  pub waits : (v : ℕ) → v < length d → is_marked settled v ≡ false → slice_index d v < limit →
       Contains waiting (record { distance = slice_index d v; vertex = v })
   pub entries : All (MayWait limit least d) waiting
   pub edges : All (LeadsToLast g least d settled) todo
-  pub closed : (e : ℕ) → e < length g.edges → Lacks excluded e → is_settled settled (edge_at g e).to ≡ true → Lacks todo e →
+  pub closed : (e : ℕ) → e < length g.edges → Lacks excluded e → is_marked settled (edge_at g e).to ≡ true → Lacks todo e →
       slice_index d (edge_at g e).from ≤ through p (edge_at g e) d
 
 -- where a search for least costs in a subgraph below a limit stands that settled a vertex at `least` last
-abbrev pub UnderwayIn : Subgraph → ℕ → ℕ → ℕ → List ℕ → List ℕ → List Bool → List Entry → Type 0
+abbrev pub UnderwayIn : Subgraph → ℕ → ℕ → ℕ → List ℕ → List ℕ → List Bool → List WaitingVertex → Type 0
 UnderwayIn s t limit least todo d settled waiting =
     Underway s.graph.now s.point.now s.exclusion.now t limit least todo d settled waiting
 
@@ -83,8 +80,8 @@ pub record GrowsByOne (old new : Waiting) : Type 0 where
   pub places : old.places ≤ new.places
   pub one : length new.entries ≤ length old.entries + 1
 
--- what a step of a search leaves of what waits: no place less, and no more entries together with the edges that may still
--- make one
+-- what a step of a search leaves of what waits: no place less, and no more entries together with the edges that may
+-- still make one
 pub record NeedsNoMore (s : Subgraph) (old new : Front) : Type 0 where
   pub places : old.waiting.places ≤ new.waiting.places
   pub fewer : length new.waiting.entries + open_edges s.graph.now new.settled.items ≤

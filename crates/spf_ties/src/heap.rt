@@ -8,9 +8,9 @@ use std::cmp::Reverse;
 use std::collections::BinaryHeap;
 use std::marker::Model;
 
-/// A vertex that waits, with the distance under which it was put in. Entries are compared by distance, then by vertex.
+/// A vertex that waits, with the distance under which it was put in. Two are compared by distance, then by vertex.
 #[derive(Clone, Copy, PartialEq, Eq, PartialOrd, Ord)]
-pub(crate) struct Entry {
+pub(crate) struct WaitingVertex {
     pub(crate) distance: u64,
     pub(crate) vertex: u32,
 }
@@ -19,7 +19,7 @@ pub(crate) struct Entry {
 /// places that it has at least.
 #[derive(Drop)]
 pub(crate) struct Heap {
-    entries: BinaryHeap<Reverse<Entry>>,
+    entries: BinaryHeap<Reverse<WaitingVertex>>,
 }
 
 impl Model for Heap {
@@ -61,16 +61,17 @@ impl Heap {
     }
 
     /// Puts an entry into a free place. Takes no memory.
-    pub(crate) fn push(&mut self, entry: Entry)
+    pub(crate) fn push(&mut self, entry: WaitingVertex)
         requires { length self.old.entries < self.old.places }
         ensures entries { IsPermutation (entry ∷ self.old.entries) self.new.entries }
         ensures places { self.old.places ≤ self.new.places }
     {
+        // It can't fail: with a free place it takes no memory.
         let _ = self.entries.push(Reverse(entry));
     }
 
     /// Takes out an entry of least distance; None where there is none.
-    pub(crate) fn pop(&mut self) -> Option<Entry>
+    pub(crate) fn pop(&mut self) -> Option<WaitingVertex>
         ensures entry { MatchOption result (self.new.entries ≡ [])
             (λ entry. IsPermutation self.old.entries (entry ∷ self.new.entries)) }
         ensures none { MatchOption result (self.old.entries ≡ []) (λ entry.

@@ -10,12 +10,12 @@ use crate::heap::Heap;
 use crate::search::{Front, Width, find_in_either};
 use crate::{Aim, NextHops};
 use area_graph::{Exclusion, FAR, Graph, Point, Subgraph, edge_of, mark_excluded, price_of};
-use cost_base::OutOfMemory;
+use cost_base::{OutOfMemory, no_marks};
 use std::alloc::Global;
 use std::marker::Model;
 
 /// Room for the distances of a graph's vertices to a target, and for the edges of one path. Contracts see the distances
-/// of the last call, none of them known before it, a mark for each edge that it took away, and the edges of the path.
+/// of the last call, none of them known before it, a mark for each edge that it excluded, and the edges of the path.
 #[derive(Drop)]
 pub struct Room {
     far: u128,
@@ -64,9 +64,9 @@ impl Room {
         graph.keeps_conditions();
         let waiting = Heap::with_places(alloc, graph.edges().len() + 1)?;
         let numbers = vec![in alloc; 0; graph.vertices().len()]?;
-        let settled = vec![in alloc; false; graph.vertices().len()]?;
+        let settled = no_marks(alloc, graph.vertices().len())?;
         let wide = vec![in alloc; 0; graph.vertices().len()]?;
-        let marks = vec![in alloc; false; graph.edges().len()]?;
+        let marks = no_marks(alloc, graph.edges().len())?;
         let path = Vec::with_capacity(alloc, graph.vertices().len())?;
         Ok(Room {
             far: 0,

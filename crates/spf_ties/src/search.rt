@@ -2,14 +2,15 @@
 //! each (Dijkstra's algorithm, with which RFC 2328, 16.1 builds its tree).
 
 ghost use Rattle.std.specs.Prelude.{◌≡◌, ◌≤◌, ◌<◌, ◌*◌, ◌^◌, [], ◌∷◌, ℕ, All, IsPermutation, List, false, length, slice_set, true};
+ghost use Rattle.cost_base.specs.Marks.{is_marked};
 ghost use Rattle.area_graph.specs.Area.{edge_at, edges_in};
 ghost use Rattle.area_graph.specs.Costs.{IsPriced, price_at};
 ghost use Rattle.area_graph.specs.Distances.{AreDistancesTo, FitsSubgraph, far};
-ghost use Rattle.spf_ties.specs.declared.heap.Entry.{Entry};
+ghost use Rattle.spf_ties.specs.declared.heap.WaitingVertex.{WaitingVertex};
 ghost use Rattle.spf_ties.specs.Searches.{AreFrontNumbers, GrowsByOne, HasPlaces, IsFrontFor, IsNarrow, NeedsNoMore};
-ghost use Rattle.spf_ties.specs.Searches.{UnderwayIn, is_settled, numbers_in_use};
+ghost use Rattle.spf_ties.specs.Searches.{UnderwayIn, numbers_in_use};
 
-use crate::heap::{Entry, Heap};
+use crate::heap::{Heap, WaitingVertex};
 use area_graph::{Point, Price, Subgraph, edge_of, put_distances};
 
 /// What a search writes in: for each vertex its number and whether it is settled, and the vertices that wait.
@@ -71,7 +72,7 @@ fn look(subgraph: &Subgraph<'_>, number: u32, front: &mut Front)
     let distance = narrow_price(edge.price, subgraph.point) + front.numbers[edge.to as usize];
     if distance < front.numbers[edge.from as usize] {
         front.numbers[edge.from as usize] = distance;
-        front.waiting.push(Entry {
+        front.waiting.push(WaitingVertex {
             distance,
             vertex: edge.from,
         });
@@ -84,7 +85,7 @@ fn settle(subgraph: &Subgraph<'_>, vertex: u32, front: &mut Front)
     requires narrow { IsNarrow subgraph.now }
     requires vertex { vertex < length subgraph.now.graph.now.vertices }
     requires front { AreFrontNumbers subgraph.now front.old }
-    requires waited { is_settled front.old.settled.items vertex ≡ false }
+    requires waited { is_marked front.old.settled.items vertex ≡ false }
     requires room { HasPlaces subgraph.now front.old }
 
     // The front is still one of a search, and needs no more places than before.
@@ -105,7 +106,7 @@ fn settle(subgraph: &Subgraph<'_>, vertex: u32, front: &mut Front)
 }
 
 /// Settles the vertex of an entry that was taken out of the heap, unless it is settled already.
-fn take_in(subgraph: &Subgraph<'_>, entry: Entry, front: &mut Front)
+fn take_in(subgraph: &Subgraph<'_>, entry: WaitingVertex, front: &mut Front)
     // The vertex is one of the graph's, and there is a place for each entry that may wait.
     requires narrow { IsNarrow subgraph.now }
     requires vertex { entry.vertex < length subgraph.now.graph.now.vertices }
@@ -117,7 +118,7 @@ fn take_in(subgraph: &Subgraph<'_>, entry: Entry, front: &mut Front)
     ensures waiting { NeedsNoMore subgraph.now front.old front.new }
 
     // Where no entry that waited is nearer, the search goes on, and no edge is left to look at.
-    ensures underway { (t limit least : ℕ) (waiting : List Entry) →
+    ensures underway { (t limit least : ℕ) (waiting : List WaitingVertex) →
         UnderwayIn subgraph.now t limit least [] front.old.numbers.items front.old.settled.items
         waiting → IsPermutation waiting (entry ∷ front.old.waiting.entries) →
         All (λ other. entry.distance ≤ other.distance) waiting →
@@ -148,7 +149,7 @@ pub(crate) fn find(subgraph: &Subgraph<'_>, target: u32, limit: u64, front: &mut
     front.numbers[target as usize] = 0;
     front.settled.fill(false);
     front.waiting.clear();
-    front.waiting.push(Entry {
+    front.waiting.push(WaitingVertex {
         distance: 0,
         vertex: target,
     });

@@ -7,18 +7,17 @@ use Rattle.std.proofs.lemmas.List.Elements.{All-contains, All-from_get_or, All-p
 use Rattle.std.proofs.lemmas.List.Quantifiers.{all_pairs_push}
 use Rattle.area_graph.specs.declared.Point.{Point}
 use Rattle.design_problem.specs.Forms.{Form, AreMet}
-use Rattle.design_problem.specs.Problems.{DesignProblem}
+use Rattle.design_problem.specs.Problems.{DesignProblem, IsProblemOnGraph}
 use Rattle.form_search.specs.Sources.{IsSourceAnswer, SameSource}
 use Rattle.form_search.specs.declared.source.Asked.{Asked}
 use Rattle.form_search.specs.declared.source.Asked.TheVariants.{Nothing, Added}
-use Rattle.cost_branching.specs.Rivals.{IsProblemOnGraph}
 use Rattle.form_search.proofs.SourceLaws.{grows_none}
-use Rattle.cost_branching.proofs.NewForms.{between_negative, grows_more, new_rival}
+use Rattle.cost_branching.proofs.NewForms.{between_negative, grows_more, new_form}
 use Rattle.spread_sets.specs.declared.spread.SetRow.{SetRow}
-use Rattle.spread_sets.specs.declared.spread.SetRow.TheVariants.{Rival}
+use Rattle.spread_sets.specs.declared.spread.SetRow.TheVariants.{Outsider}
 use Rattle.spread_sets.specs.Spreads.{IsSetRow, SetRowsDiffer, Shares, SharesEach, edges_of, name_of_set, form_of_set_row}
 use Rattle.spread_sets.specs.MemberSets.{AreDistinctSets, AreMemberSets}
-use Rattle.spread_sets.specs.Sources.{IsPoolOfSets, IsOutsiderTooCheap, IsTrueOfSets, KnownSets, candidates_of, set_at, tie_rows}
+use Rattle.spread_sets.specs.Sources.{IsPoolOfSets, IsOutsiderTooCheap, IsTrueOfSets, KnownSets, possible_forms_of, set_at, tie_rows}
 use Rattle.spread_sets.specs.Asking.{AnswersSetsBelow, AreAllSetsAsked, AreSetsAsked, IsPassed, NoSetRow, OneSetRow}
 use Rattle.spread_sets.proofs.DistinctRows.{passed_differs, passed_more}
 use Rattle.spread_sets.proofs.Ties.{rows_met}
@@ -91,38 +90,38 @@ in_step_more now forms row in_step is differ = record {
 }
 
 pub too_cheap_not : (p : DesignProblem) (point : Point) (set es : List ℕ) → IsOutsiderTooCheap p point set es → Shares p point set → ⊥
-too_cheap_not p point set es cheap shares = (let more = shares.dearer es cheap.rival in let less = cheap.cheap in absurd (omega arith))
+too_cheap_not p point set es cheap shares = (let more = shares.dearer es cheap.outsider in let less = cheap.cheap in absurd (omega arith))
 
 row_added : (point : Point) (count : ℕ) (p : DesignProblem) (sets : List (List ℕ)) (old_rows : List SetRow)
-    (old_forms : List Form) (rows : List SetRow) (forms : List Form) (asked : Asked) (rival : List ℕ) →
+    (old_forms : List Form) (rows : List SetRow) (forms : List Form) (asked : Asked) (outsider : List ℕ) →
     AreSetsAsked point count (record { problem = p; sets = sets; rows = old_rows }) old_forms
     (record { problem = p; sets = sets; rows = rows }) forms asked →
     AreMet old_forms point → length point.values ≡ length p.low → IsProblemOnGraph p → AreMemberSets p sets →
-    count < length sets → IsOutsiderTooCheap p point (set_at sets count) rival →
+    count < length sets → IsOutsiderTooCheap p point (set_at sets count) outsider →
     AreSetsAsked point (count + 1) (record { problem = p; sets = sets; rows = old_rows }) old_forms
-    (record { problem = p; sets = sets; rows = rows ++ Rival (name_of_set (set_at sets count)) rival ∷ [] })
-    (forms ++ form_of_set_row p (Rival (name_of_set (set_at sets count)) rival) ∷ []) Added
-row_added point count p sets old_rows old_forms rows forms asked rival are met length_is kept members inside cheap =
+    (record { problem = p; sets = sets; rows = rows ++ Outsider (name_of_set (set_at sets count)) outsider ∷ [] })
+    (forms ++ form_of_set_row p (Outsider (name_of_set (set_at sets count)) outsider) ∷ []) Added
+row_added point count p sets old_rows old_forms rows forms asked outsider are met length_is kept members inside cheap =
     let old : KnownSets = record { problem = p; sets = sets; rows = old_rows } in
     let set = set_at sets count in
-    let row : SetRow = Rival (name_of_set set) rival in
+    let row : SetRow = Outsider (name_of_set set) outsider in
     let has = listed_at sets count [] inside in
-    let negative = between_negative p point (edges_of p (name_of_set set)) rival kept.problem length_is cheap.cheap in
-    let is_row : IsSetRow p sets row = (set, record { listed = has; first = refl }, cheap.rival) in
+    let negative = between_negative p point (edges_of p (name_of_set set)) outsider kept.problem length_is cheap.cheap in
+    let is_row : IsSetRow p sets row = (set, record { listed = has; first = refl }, cheap.outsider) in
     record {
       problem = refl;
       sets = refl;
       in_step = in_step_more (record { problem = p; sets = sets; rows = rows }) forms row are.in_step is_row
           (λ distinct. All-weaker (IsPassed old point count) (λ other. SetRowsDiffer other row)
-          (λ other passed. passed_differs old point count other rival distinct inside negative passed) rows are.passed);
+          (λ other passed. passed_differs old point count other outsider distinct inside negative passed) rows are.passed);
       grows = grows_more (IsTrueOfSets p sets) old_forms forms (form_of_set_row p row) are.grows
           (record { kept = kept; are = members; of_row = record { row = row; is_row = is_row; same = refl } });
       passed = All-push (IsPassed old point (count + 1)) rows row
           (All-weaker (IsPassed old point count) (IsPassed old point (count + 1)) (passed_more old point count) rows are.passed)
           (inl (count, omega arith, refl));
       answer = (
-        λ each. too_cheap_not p point set rival cheap (All-contains (Shares p point) sets set each has),
-        new_rival point old_forms forms (form_of_set_row p row) met negative,
+        λ each. too_cheap_not p point set outsider cheap (All-contains (Shares p point) sets set each has),
+        new_form point old_forms forms (form_of_set_row p row) met negative,
       );
     }
 
@@ -135,46 +134,46 @@ pub one_added : (point : Point) (count : ℕ) (old : KnownSets) (old_forms : Lis
 one_added point count old old_forms now forms new new_forms asked are met length_is inside one =
     subst (λ (s : KnownSets). AreSetsAsked point (count + 1) old old_forms s new_forms Added) (sym one.rows)
     (subst (λ (fs : List Form). AreSetsAsked point (count + 1) old old_forms
-    (record now { rows = now.rows ++ Rival (name_of_set (set_at now.sets count)) one.rival ∷ [] }) fs Added)
+    (record now { rows = now.rows ++ Outsider (name_of_set (set_at now.sets count)) one.outsider ∷ [] }) fs Added)
     (sym one.forms)
     (by_names now.problem now.sets are.problem are.sets are one.kept one.are one.cheap))
   where
     by_names : (q : DesignProblem) (others : List (List ℕ)) → q ≡ old.problem → others ≡ old.sets →
         AreSetsAsked point count old old_forms (record { problem = q; sets = others; rows = now.rows }) forms asked →
-        IsProblemOnGraph q → AreMemberSets q others → IsOutsiderTooCheap q point (set_at others count) one.rival →
+        IsProblemOnGraph q → AreMemberSets q others → IsOutsiderTooCheap q point (set_at others count) one.outsider →
         AreSetsAsked point (count + 1) old old_forms
         (record {
           problem = q;
           sets = others;
-          rows = now.rows ++ Rival (name_of_set (set_at others count)) one.rival ∷ [];
+          rows = now.rows ++ Outsider (name_of_set (set_at others count)) one.outsider ∷ [];
         })
-        (forms ++ form_of_set_row q (Rival (name_of_set (set_at others count)) one.rival) ∷ []) Added
+        (forms ++ form_of_set_row q (Outsider (name_of_set (set_at others count)) one.outsider) ∷ []) Added
     by_names q others same_problem same_sets =
         subst (λ (r : DesignProblem). AreSetsAsked point count old old_forms
         (record { problem = r; sets = others; rows = now.rows }) forms asked → IsProblemOnGraph r → AreMemberSets r others →
-        IsOutsiderTooCheap r point (set_at others count) one.rival →
+        IsOutsiderTooCheap r point (set_at others count) one.outsider →
         AreSetsAsked point (count + 1) old old_forms
         (record {
           problem = r;
           sets = others;
-          rows = now.rows ++ Rival (name_of_set (set_at others count)) one.rival ∷ [];
+          rows = now.rows ++ Outsider (name_of_set (set_at others count)) one.outsider ∷ [];
         })
-        (forms ++ form_of_set_row r (Rival (name_of_set (set_at others count)) one.rival) ∷ []) Added)
+        (forms ++ form_of_set_row r (Outsider (name_of_set (set_at others count)) one.outsider) ∷ []) Added)
         (sym same_problem)
         (subst (λ (ss : List (List ℕ)).
         AreSetsAsked point count old old_forms (record { problem = old.problem; sets = ss; rows = now.rows }) forms
         asked → IsProblemOnGraph old.problem → AreMemberSets old.problem ss →
-        IsOutsiderTooCheap old.problem point (set_at ss count) one.rival →
+        IsOutsiderTooCheap old.problem point (set_at ss count) one.outsider →
         AreSetsAsked point (count + 1) old old_forms
         (record {
           problem = old.problem;
           sets = ss;
-          rows = now.rows ++ Rival (name_of_set (set_at ss count)) one.rival ∷ [];
+          rows = now.rows ++ Outsider (name_of_set (set_at ss count)) one.outsider ∷ [];
         })
-        (forms ++ form_of_set_row old.problem (Rival (name_of_set (set_at ss count)) one.rival) ∷ []) Added)
+        (forms ++ form_of_set_row old.problem (Outsider (name_of_set (set_at ss count)) one.outsider) ∷ []) Added)
         (sym same_sets)
         (λ here kept members cheap. row_added point count old.problem old.sets old.rows old_forms now.rows forms asked
-        one.rival here met length_is kept members inside cheap))
+        one.outsider here met length_is kept members inside cheap))
 
 -- all sets were asked
 pub all_asked : (point : Point) (count : ℕ) (old : KnownSets) (old_forms : List Form) (new : KnownSets)
@@ -200,10 +199,10 @@ same_for P old new same_problem same_sets = (
 
 pub same_source : (old new : KnownSets) → new.problem ≡ old.problem → new.sets ≡ old.sets →
     SameSource (λ s. length s.problem.low) (λ s. SharesEach s.problem s.sets) (λ s. IsTrueOfSets s.problem s.sets)
-    (λ s. candidates_of s.problem) old new
+    (λ s. possible_forms_of s.problem) old new
 same_source old new same_problem same_sets = record {
   same_count = ap (λ (p : DesignProblem). length p.low) same_problem;
   same_points = λ point. same_for (λ p sets. SharesEach p sets point) old new same_problem same_sets;
   same_forms = λ form. same_for (λ p sets. IsTrueOfSets p sets form) old new same_problem same_sets;
-  same_candidates = ap candidates_of same_problem;
+  same_possible_forms = ap possible_forms_of same_problem;
 }

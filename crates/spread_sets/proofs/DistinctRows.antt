@@ -1,5 +1,5 @@
 -- No row of sets comes twice.
-use Rattle.std.proofs.Common.{◌≡◌, ◌≢◌, ℕ, zero, suc, ◌+◌, ◌<◌, refl, sym, ◌∙◌, ap, subst, inl, inr, get_or, List, [], ◌∷◌, ◌++◌, map, length, arith, Bool, true, false, if◌then◌else◌}
+use Rattle.std.proofs.Common.{◌≡◌, ◌≢◌, ℕ, zero, suc, ◌+◌, ◌<◌, refl, sym, ◌∙◌, ap, subst, inl, inr, get_or, List, [], ◌∷◌, map, length, arith, Bool, true, false, if◌then◌else◌}
 use Rattle.std.specs.Prelude.{ℤ, pos, ◌≤ℤ◌, ◌<ℤ◌, All, AllPairs, filter}
 use Rattle.std.proofs.lemmas.Bool.{cases_lt, eqb-true}
 use Rattle.std.proofs.lemmas.Int.{ints}
@@ -7,40 +7,26 @@ use Rattle.std.proofs.lemmas.List.{get_or-map, length-map}
 use Rattle.std.proofs.lemmas.List.Elements.{All-append, All-cons, All-head, All-map, All-nil, All-tail, All-weaker}
 use Rattle.std.proofs.lemmas.List.Kept.{AllPairs-cons, AllPairs-filter, AllPairs-from_increasing}
 use Rattle.cost_base.specs.Lists.{numbers_from}
-use Rattle.cost_base.proofs.ListLemmas.{all_kept, get_or-numbers_from, length-numbers_from}
+use Rattle.cost_base.proofs.ListLemmas.{all_kept, get_or-numbers_from, length-numbers_from, pairs_head, pairs_tail, pairs_append, pairs_nil}
 use Rattle.area_graph.specs.declared.Point.{Point}
 use Rattle.design_problem.specs.Forms.{value_at}
 use Rattle.design_problem.specs.Problems.{DesignProblem}
 use Rattle.design_problem.specs.Rows.{form_between}
-use Rattle.printed_rows.proofs.SheetLaws.{pairs_first, pairs_left}
 use Rattle.set_reader.specs.Reading.{stands_in}
 use Rattle.set_reader.specs.SpreadSets.{AreSetsOf, IsSetOf}
 use Rattle.spread_sets.specs.declared.spread.SetRow.{SetRow}
-use Rattle.spread_sets.specs.declared.spread.SetRow.TheVariants.{Rival, Same}
+use Rattle.spread_sets.specs.declared.spread.SetRow.TheVariants.{Outsider, Same}
 use Rattle.spread_sets.specs.Spreads.{SetRowsDiffer, all_sets, edges_of, name_of_set, form_of_set_row, is_first, name_of, set_of}
 use Rattle.spread_sets.specs.MemberSets.{AreDistinctSets}
 use Rattle.spread_sets.specs.Sources.{KnownSets, set_at, tie_rows, ties_in, ties_of}
 use Rattle.spread_sets.specs.Asking.{IsPassed}
 
--- Lists.
-
-pub none_pair : {X : Type 0} (R : X → X → Type 0) → AllPairs R []
-none_pair R i j d before j_in = absurd (omega (arith, j_in))
-
-pairs_append : {X : Type 0} (R : X → X → Type 0) (xs ys : List X) → AllPairs R xs → AllPairs R ys → All (λ x. All (R x) ys) xs → AllPairs R (xs ++ ys)
-pairs_append R [] ys first second across = second
-pairs_append {X} R (x ∷ xs) ys first second across =
-    let Across : X → Type 0 = λ y. All (R y) ys in
-    AllPairs-cons R x (xs ++ ys)
-    (All-append (R x) xs ys (pairs_first R x xs first) (All-head Across x xs across))
-    (pairs_append R xs ys (pairs_left R x xs first) second (All-tail Across x xs across))
-
 -- Rows of ties.
 
 names_differ : (a b : SetRow) → name_of a ≢ name_of b → SetRowsDiffer a b
-names_differ (Rival a rival) (Rival b other) differ = λ same edges. differ same
-names_differ (Rival a rival) (Same b i j) differ = tt
-names_differ (Same a i j) (Rival b rival) differ = tt
+names_differ (Outsider a outsider) (Outsider b other) differ = λ same edges. differ same
+names_differ (Outsider a outsider) (Same b i j) differ = tt
+names_differ (Same a i j) (Outsider b outsider) differ = tt
 names_differ (Same a i j) (Same b k l) differ = λ same first second. differ same
 
 -- a member that isn't among those of the ties
@@ -67,16 +53,16 @@ lacks_second name a i (k ∷ l ∷ more) lacks =
     (λ same first second. All-head Lacks k (l ∷ more) lacks second) (lacks_second name a i (l ∷ more) rest))
 
 ties_differ : (name : ℕ) (set : List ℕ) → AllPairs (λ i j. i ≢ j) set → AllPairs SetRowsDiffer (ties_of name set)
-ties_differ name [] apart = none_pair SetRowsDiffer
-ties_differ name (i ∷ []) apart = none_pair SetRowsDiffer
+ties_differ name [] apart = pairs_nil SetRowsDiffer
+ties_differ name (i ∷ []) apart = pairs_nil SetRowsDiffer
 ties_differ name (i ∷ j ∷ more) apart =
-    let lacks = pairs_first (λ a b. a ≢ b) i (j ∷ more) apart in
+    let lacks = pairs_head (λ a b. a ≢ b) i (j ∷ more) apart in
     let rest = ties_of name (j ∷ more) in
     AllPairs-cons SetRowsDiffer (Same name i j) (Same name j i ∷ rest)
     (All-cons (SetRowsDiffer (Same name i j)) (Same name j i) rest
     (λ same first second. All-head (λ k. i ≢ k) j more lacks first) (lacks_first name i j (j ∷ more) lacks))
     (AllPairs-cons SetRowsDiffer (Same name j i) rest (lacks_second name j i (j ∷ more) lacks)
-    (ties_differ name (j ∷ more) (pairs_left (λ a b. a ≢ b) i (j ∷ more) apart)))
+    (ties_differ name (j ∷ more) (pairs_tail (λ a b. a ≢ b) i (j ∷ more) apart)))
 
 -- they have the name of their set
 ties_named : (name : ℕ) (set : List ℕ) → All (λ row. name_of row ≡ name) (ties_of name set)
@@ -98,39 +84,39 @@ tie_rows_named P (set ∷ sets) all =
 -- of sets with names of their own none comes twice
 pub tie_rows_differ : (sets : List (List ℕ)) → AllPairs (λ a b. name_of_set a ≢ name_of_set b) sets →
     All (λ set. AllPairs (λ i j. i ≢ j) set) sets → AllPairs SetRowsDiffer (tie_rows sets)
-tie_rows_differ [] names members = none_pair SetRowsDiffer
+tie_rows_differ [] names members = pairs_nil SetRowsDiffer
 tie_rows_differ (set ∷ sets) names members =
     let NoTwice : List ℕ → Type 0 = λ s. AllPairs (λ i j. i ≢ j) s in
     let name = name_of_set set in
-    let others = tie_rows_named (λ n. name ≢ n) sets (pairs_first (λ a b. name_of_set a ≢ name_of_set b) set sets names) in
+    let others = tie_rows_named (λ n. name ≢ n) sets (pairs_head (λ a b. name_of_set a ≢ name_of_set b) set sets names) in
     pairs_append SetRowsDiffer (ties_in set) (tie_rows sets)
     (ties_differ name set (All-head NoTwice set sets members))
-    (tie_rows_differ sets (pairs_left (λ a b. name_of_set a ≢ name_of_set b) set sets names) (All-tail NoTwice set sets members))
+    (tie_rows_differ sets (pairs_tail (λ a b. name_of_set a ≢ name_of_set b) set sets names) (All-tail NoTwice set sets members))
     (All-weaker (λ row. name_of row ≡ name) (λ row. All (SetRowsDiffer row) (tie_rows sets))
     (λ row is. All-weaker (λ other. name ≢ name_of other) (SetRowsDiffer row)
     (λ other differ. names_differ row other (λ same. differ (sym is ∙ same))) (tie_rows sets) others)
     (ties_in set) (ties_named name set))
 
--- Rivals that come.
+-- Outsiders that come.
 
 not_below : (z : ℤ) → pos 0 ≤ℤ z → z <ℤ pos 0 → ⊥
 not_below z above below = omega (arith, ints, above, below)
 
--- a rival that is too cheap differs from each row that was passed
-pub passed_differs : (s : KnownSets) (point : Point) (count : ℕ) (row : SetRow) (rival : List ℕ) →
+-- an outsider that is too cheap differs from each row that was passed
+pub passed_differs : (s : KnownSets) (point : Point) (count : ℕ) (row : SetRow) (outsider : List ℕ) →
     AreDistinctSets s.sets → count < length s.sets →
-    value_at (form_of_set_row s.problem (Rival (name_of_set (set_at s.sets count)) rival)) point <ℤ pos 0 →
-    IsPassed s point count row → SetRowsDiffer row (Rival (name_of_set (set_at s.sets count)) rival)
-passed_differs s point count (Same name i j) rival distinct inside negative passed = tt
-passed_differs s point count (Rival name other) rival distinct inside negative (inl earlier) =
+    value_at (form_of_set_row s.problem (Outsider (name_of_set (set_at s.sets count)) outsider)) point <ℤ pos 0 →
+    IsPassed s point count row → SetRowsDiffer row (Outsider (name_of_set (set_at s.sets count)) outsider)
+passed_differs s point count (Same name i j) outsider distinct inside negative passed = tt
+passed_differs s point count (Outsider name other) outsider distinct inside negative (inl earlier) =
     λ same edges. distinct.names earlier.0 count [] earlier.1 inside (sym earlier.2 ∙ same)
-passed_differs s point count (Rival name other) rival distinct inside negative (inr met) =
+passed_differs s point count (Outsider name other) outsider distinct inside negative (inr met) =
     λ same edges.
     let p = s.problem in
     let value_of : ℕ → List ℕ → ℤ = λ k es. value_at (form_between p.graph (length p.low) (edges_of p k) es) point in
-    let one : value_of name other ≡ value_of (name_of_set (set_at s.sets count)) rival =
+    let one : value_of name other ≡ value_of (name_of_set (set_at s.sets count)) outsider =
     ap (λ (k : ℕ). value_of k other) same ∙ ap (value_of (name_of_set (set_at s.sets count))) edges in
-    not_below (value_of (name_of_set (set_at s.sets count)) rival) (subst (λ (z : ℤ). pos 0 ≤ℤ z) one met) negative
+    not_below (value_of (name_of_set (set_at s.sets count)) outsider) (subst (λ (z : ℤ). pos 0 ≤ℤ z) one met) negative
 
 pub passed_more : (s : KnownSets) (point : Point) (count : ℕ) (row : SetRow) → IsPassed s point count row → IsPassed s point (count + 1) row
 passed_more s point count row (inl earlier) = inl (earlier.0, (let before = earlier.1 in omega arith), earlier.2)
@@ -161,7 +147,7 @@ set_distinct p (set ∷ lines) path are = by_place (stands_in path set) (set_dis
 
 pub all_sets_distinct : (p : DesignProblem) (lines : List (List ℕ)) → AreSetsOf p lines → AreDistinctSets (all_sets p lines)
 all_sets_distinct p lines are =
-    let n = length p.paths in
+    let n = length p.requests in
     let kept = filter (is_first lines) (numbers_from 0 n) in
     let Named : ℕ → Type 0 = λ path. name_of_set (set_of lines path) ≡ path in
     let named : All Named kept = all_kept Named (is_first lines) 0 n (λ k from below is. eqb-true (name_of_set (set_of lines k)) k is) in

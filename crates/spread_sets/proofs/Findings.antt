@@ -3,15 +3,14 @@ use Rattle.std.proofs.Common.{◌≡◌, ℕ, ◌≤◌, refl, sym, ◌∙◌, a
 use Rattle.std.specs.Prelude.{All, AllPairs, IfOk, OnOk}
 use Rattle.cost_base.specs.declared.OutOfMemory.{OutOfMemory}
 use Rattle.std.proofs.lemmas.List.Elements.{All-map}
-use Rattle.design_problem.specs.declared.form.CostBox.{CostBox}
+use Rattle.design_problem.specs.declared.boxes.CostBox.{CostBox}
 use Rattle.design_problem.specs.Forms.{Form}
-use Rattle.design_problem.specs.Problems.{DesignProblem, IsProblem}
+use Rattle.design_problem.specs.Problems.{DesignProblem, IsProblem, IsProblemOnGraph}
 use Rattle.design_problem.specs.Rows.{box_of}
 use Rattle.design_problem.specs.Boxes.{capped}
 use Rattle.design_problem.specs.Answers.{greatest_bound, whole_box}
 use Rattle.form_search.specs.Finds.{IsSearchResult}
 use Rattle.form_search.specs.declared.found.Found.{Found}
-use Rattle.cost_branching.specs.Rivals.{IsProblemOnGraph}
 use Rattle.printed_rows.proofs.CapBoxes.{low_below_greatest_bound, no_low_above}
 use Rattle.set_reader.specs.SpreadSets.{AreSetsOf}
 use Rattle.spread_sets.specs.declared.finding.Sought.{Sought}
@@ -73,7 +72,7 @@ sought_is p sets top nodes box source pool sought same_problem same_sets in_step
 
 -- the sets that are made are the problem's
 pub made_sets : (p : DesignProblem) (lines : List (List ℕ)) (sets : List (List ℕ)) (count : ℕ) →
-    count ≡ length p.paths → sets ≡ sets_below lines count → sets ≡ all_sets p lines
+    count ≡ length p.requests → sets ≡ sets_below lines count → sets ≡ all_sets p lines
 made_sets p lines sets count all is = is ∙ ap (sets_below lines) all
 
 pub made_are : (p : DesignProblem) (lines sets : List (List ℕ)) → AreSetsOf p lines → sets ≡ all_sets p lines → AreMemberSets p sets

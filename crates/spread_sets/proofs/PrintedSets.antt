@@ -10,7 +10,7 @@ use Rattle.design_problem.specs.declared.problem.Request.{Request}
 use Rattle.design_problem.specs.declared.form.Row.{Row}
 use Rattle.design_problem.specs.declared.tree.Entry.{Entry}
 use Rattle.design_problem.specs.declared.tree.Entry.TheVariants.{Undone}
-use Rattle.design_problem.specs.Problems.{DesignProblem, IsProblem, request_ends, request_at}
+use Rattle.design_problem.specs.Problems.{DesignProblem, IsProblem, request_ends, request_at, IsProblemOnGraph}
 use Rattle.design_problem.specs.Boxes.{IsInBox}
 use Rattle.design_problem.specs.Rows.{IsRivalOf, IsRouteOf, IsRow, box_of}
 use Rattle.design_problem.specs.Trees.{IsClosed, IsSoundTree, entry_count}
@@ -18,8 +18,7 @@ use Rattle.design_problem.specs.Answers.{greatest_bound, whole_box}
 use Rattle.design_problem.proofs.ProblemTrees.{le_greatest}
 use Rattle.design_problem.proofs.TreeLaws.{closed_tree_none}
 use Rattle.design_problem.proofs.TreeShapes.{few_entries}
-use Rattle.form_search.specs.Finds.{IsSearchTree}
-use Rattle.cost_branching.specs.Rivals.{IsProblemOnGraph}
+use Rattle.design_problem.specs.SearchTrees.{IsSearchTree}
 use Rattle.printed_rows.specs.NamedRows.{NamesBelow, is_row_named}
 use Rattle.printed_rows.specs.NewNumbers.{IsTreePrinted}
 use Rattle.printed_rows.proofs.AnswerLines.{fit_text}
@@ -31,11 +30,11 @@ use Rattle.printed_rows.proofs.TreeCopies.{IsCopy, all_printed, copy_closed, cop
 use Rattle.printed_rows.proofs.TreeLines.{spaced-le, thing_digits}
 use Rattle.set_separation.specs.Outsiders.{IsOutsider}
 use Rattle.spread_sets.specs.declared.spread.SetRow.{SetRow}
-use Rattle.spread_sets.specs.declared.spread.SetRow.TheVariants.{Rival, Same}
+use Rattle.spread_sets.specs.declared.spread.SetRow.TheVariants.{Outsider, Same}
 use Rattle.spread_sets.specs.declared.spread.Spread.TheVariants.{Fit, Impossible, Undecided}
 use Rattle.spread_sets.specs.Spreads.{IsFormOfSetRow, IsSetRow, SetRowsDiffer, SharesEach, edges_of, ends_in, name_of_set, form_of_set_row, forms_of_set_rows, paths_of}
 use Rattle.printed_rows.specs.FittingTexts.{FitText, IsTextLine}
-use Rattle.spread_sets.specs.Answers.{HasNoSpread, IsSheetOfSets, IsUndecidedOfSets, IsTreeOfSets, set_row_line}
+use Rattle.spread_sets.specs.Answers.{HasNoSpread, IsSheetOfSets, IsUndecidedOfSpreadSets, IsTreeOfSpreadSets, set_row_line}
 use Rattle.spread_sets.specs.Laws.{SpreadSufficientIfLarge, SpreadSettlesIfSufficient}
 use Rattle.spread_sets.specs.MemberSets.{AreMemberSets, IsMemberSet}
 use Rattle.spread_sets.specs.SourceLaws.{first_listed, member_known}
@@ -44,15 +43,15 @@ use Rattle.spread_sets.proofs.SpreadLaws.{fit_met}
 -- The lines of rows.
 
 -- a simple path of a request, other than its own
-pub rival_is : (g : Area) (paths : List Request) (k : ℕ) (es : List ℕ) → k < length paths →
-    IsPathOf g (request_ends (request_at paths k)) es → es ≢ (request_at paths k).path.edges →
-    IsRivalOf g (slice_get paths k) es
+pub rival_is : (g : Area) (requests : List Request) (k : ℕ) (es : List ℕ) → k < length requests →
+    IsPathOf g (request_ends (request_at requests k)) es → es ≢ (request_at requests k).path.edges →
+    IsRivalOf g (slice_get requests k) es
 rival_is g [] k es known path other = absurd (omega arith)
 rival_is g (r ∷ rs) zero es known path other = (path, other)
 rival_is g (r ∷ rs) (suc k) es known path other = rival_is g rs k es (omega arith) path other
 
-pub route_is : (g : Area) (paths : List Request) (k : ℕ) (es : List ℕ) → k < length paths →
-    IsPathOf g (request_ends (request_at paths k)) es → IsRouteOf g (slice_get paths k) es
+pub route_is : (g : Area) (requests : List Request) (k : ℕ) (es : List ℕ) → k < length requests →
+    IsPathOf g (request_ends (request_at requests k)) es → IsRouteOf g (slice_get requests k) es
 route_is g [] k es known path = absurd (omega arith)
 route_is g (r ∷ rs) zero es known path = path
 route_is g (r ∷ rs) (suc k) es known path = route_is g rs k es (omega arith) path
@@ -62,30 +61,31 @@ first_other : (p : DesignProblem) (set es : List ℕ) → 0 < length set → All
 first_other p [] es some other = absurd (omega arith)
 first_other p (i ∷ more) es some other = other 0 [] (omega arith)
 
-rival_row : (p : DesignProblem) (set : List ℕ) (rival : List ℕ) → IsMemberSet p set →
-    IsOutsider p.graph (ends_in p set) (paths_of p set) rival →
-    IsRivalOf p.graph (slice_get p.paths (name_of_set set)) rival
-rival_row p set rival is outsider =
-    rival_is p.graph p.paths (name_of_set set) rival (member_known p set (name_of_set set) is (first_listed set is.some))
-    outsider.path (first_other p set rival is.some outsider.other)
+outsider_row : (p : DesignProblem) (set es : List ℕ) → IsMemberSet p set →
+    IsOutsider p.graph (ends_in p set) (paths_of p set) es →
+    IsRivalOf p.graph (slice_get p.requests (name_of_set set)) es
+outsider_row p set es is outsider =
+    rival_is p.graph p.requests (name_of_set set) es (member_known p set (name_of_set set) is (first_listed set is.some))
+    outsider.path (first_other p set es is.some outsider.other)
 
 same_short : (name i j : ℕ) → name < 2 ^ 32 → i < 2 ^ 32 → j < 2 ^ 32 → IsTextLine (set_row_line (Same name i j))
 same_short name i j first second third =
     let words = spaced-le (codes "same" ∷ decimal name ∷ decimal i ∷ decimal j ∷ []) in
     omega (arith, thing_digits name first, thing_digits i second, thing_digits j third)
 
-set_row_short : (p : DesignProblem) (sets : List (List ℕ)) (row : SetRow) → IsProblemOnGraph p → AreMemberSets p sets → IsSetRow p sets row → IsTextLine (set_row_line row)
-set_row_short p sets (Rival name rival) kept are is =
+set_row_short : (p : DesignProblem) (sets : List (List ℕ)) (row : SetRow) → IsProblemOnGraph p → AreMemberSets p sets → IsSetRow p sets row →
+    IsTextLine (set_row_line row)
+set_row_short p sets (Outsider name es) kept are is =
     let set_is = All-contains (IsMemberSet p) sets is.0 are is.1.listed in
-    let row : Row = record { request = name; rival = rival } in
-    let is_row : IsRow p row = subst (λ (k : ℕ). IsRivalOf p.graph (slice_get p.paths k) rival) is.1.first (rival_row p is.0 rival set_is is.2) in
+    let row : Row = record { request = name; rival = es } in
+    let is_row : IsRow p row = subst (λ (k : ℕ). IsRivalOf p.graph (slice_get p.requests k) es) is.1.first (outsider_row p is.0 es set_is is.2) in
     rows_short p (row ∷ []) kept.problem kept.graph (All-cons (IsRow p) row [] is_row (All-nil (IsRow p))) 0 row (omega arith)
 set_row_short p sets (Same name i j) kept are is =
     let set = is.0 in
     let set_is = All-contains (IsMemberSet p) sets set are is.1.listed in
-    let few = kept.problem.path_count in
-    let first : name < length p.paths =
-    subst (λ (k : ℕ). k < length p.paths) is.1.first
+    let few = kept.problem.request_count in
+    let first : name < length p.requests =
+    subst (λ (k : ℕ). k < length p.requests) is.1.first
     (member_known p set (name_of_set set) set_is (first_listed set set_is.some)) in
     let second = member_known p set i set_is is.2 in
     let third = member_known p set j set_is is.3 in
@@ -137,7 +137,7 @@ sheet_is p sets top old rows tree new_tree true_rows once search printed =
 pub shown_tree : (p : DesignProblem) (sets : List (List ℕ)) (top nodes : ℕ) (old rows : List SetRow)
     (tree new_tree : List Entry) → CanPrintSets p sets nodes → All (IsSetRow p sets) old → AllPairs SetRowsDiffer old →
     IsSearchTree (SharesEach p sets) top (forms_of_set_rows p old) (whole_box p) tree → entry_count tree ≤ nodes →
-    IsTreePrinted old tree rows new_tree → IsTreeOfSets p sets top nodes rows new_tree
+    IsTreePrinted old tree rows new_tree → IsTreeOfSpreadSets p sets top nodes rows new_tree
 shown_tree p sets top nodes old rows tree new_tree can true_rows once search few printed =
     let copy = copied p sets top old rows tree new_tree search printed in
     record {
@@ -151,7 +151,7 @@ pub shown_used_up : (p : DesignProblem) (sets : List (List ℕ)) (top nodes : �
     (tree new_tree : List Entry) → CanPrintSets p sets nodes → All (IsSetRow p sets) old → AllPairs SetRowsDiffer old →
     IsSearchTree (SharesEach p sets) top (forms_of_set_rows p old) (whole_box p) tree → Contains tree Undone →
     entry_count tree ≡ nodes →
-    IsTreePrinted old tree rows new_tree → IsUndecidedOfSets p sets top nodes rows new_tree
+    IsTreePrinted old tree rows new_tree → IsUndecidedOfSpreadSets p sets top nodes rows new_tree
 shown_used_up p sets top nodes old rows tree new_tree can true_rows once search undone used_up printed =
     let copy = copied p sets top old rows tree new_tree search printed in
     record {
@@ -190,7 +190,7 @@ pub shown_closed : (p : DesignProblem) (sets : List (List ℕ)) (top nodes : ℕ
     (tree new_tree : List Entry) → CanPrintSets p sets nodes → All (IsSetRow p sets) old → AllPairs SetRowsDiffer old →
     IsSearchTree (SharesEach p sets) top (forms_of_set_rows p old) (whole_box p) tree → entry_count tree ≤ nodes →
     IsClosed tree →
-    IsTreePrinted old tree rows new_tree → IsTreeOfSets p sets top nodes rows new_tree × IsClosed new_tree × HasNoSpread p sets
+    IsTreePrinted old tree rows new_tree → IsTreeOfSpreadSets p sets top nodes rows new_tree × IsClosed new_tree × HasNoSpread p sets
 shown_closed p sets top nodes old rows tree new_tree can true_rows once search few closed printed =
     let shown = shown_tree p sets top nodes old rows tree new_tree can true_rows once search few printed in
     let stays = copy_closed (is_row_named tree) old rows tree new_tree (copied p sets top old rows tree new_tree search printed) closed in
@@ -207,5 +207,5 @@ sufficient_settle p lines top nodes (Undecided rows tree) cannot found =
 pub large_suffice : SpreadSufficientIfLarge
 large_suffice p lines top nodes kept enough rows tree true_rows earnest undone used_up =
     let few = (few_entries (length p.low) (forms_of_set_rows p rows) (whole_box p) tree
-    (bounds_box p kept) earnest.sound).unfinished undone in
+    (bounds_box p kept) earnest.sound).undecided undone in
     absurd (omega (arith, few, enough, used_up))

@@ -1,5 +1,5 @@
 -- What an asker of sets keeps while it looks at one set after another.
-use Rattle.std.proofs.Common.{◌≡◌, ℕ, ◌+◌, ◌<◌, ◌≤◌, sym, subst, inl, inr, List, [], length, get_or, arith, Bool, ◌∙◌, Option, None, Some}
+use Rattle.std.proofs.Common.{◌≡◌, ℕ, ◌+◌, ◌<◌, ◌≤◌, sym, subst, inl, inr, List, [], length, get_or, arith, Bool, ◌∙◌, Option, None}
 use Rattle.std.specs.Prelude.{All, Contains, MatchBool}
 use Rattle.std.proofs.lemmas.Bool.{cases_lt}
 use Rattle.std.proofs.lemmas.List.{get_or-map, get_or_default, length-map}
@@ -8,19 +8,18 @@ use Rattle.area_graph.specs.declared.Point.{Point}
 use Rattle.area_graph.specs.Area.{Area}
 use Rattle.area_graph.specs.Costs.{cost}
 use Rattle.design_problem.specs.declared.problem.Request.{Request}
-use Rattle.design_problem.specs.Problems.{DesignProblem, request_at, request_ends}
-use Rattle.spf_ties.specs.Distances.{Findings}
+use Rattle.design_problem.specs.Problems.{DesignProblem, IsProblem, request_ends}
+use Rattle.rival_separation.specs.declared.outlook.Outlook.{Outlook}
 use Rattle.rival_separation.proofs.AskerLemmas.{order_reaches}
-use Rattle.rival_separation.proofs.RivalLemmas.{found_kept}
-use Rattle.set_separation.specs.Outsiders.{CostAtLeast}
+use Rattle.set_separation.specs.Deviations.{IsTiedTree}
+use Rattle.set_separation.specs.Outsiders.{CostAtLeast, IsCheapestOutsider}
+use Rattle.set_separation.specs.SeenTrees.{AreOutsidersDearHere, IsCheapestOutsiderHere, IsTiedHere}
 use Rattle.spread_sets.specs.declared.member_sets.MemberSet.{MemberSet}
-use Rattle.spread_sets.specs.Asking.{AreSetAnswers, IsSetAnswer}
-use Rattle.spread_sets.specs.MemberSets.{sets_in}
-use Rattle.spread_sets.specs.declared.set_asker.Reach.{Reach}
-use Rattle.spread_sets.specs.declared.set_asker.SetSurvey.{SetSurvey}
-use Rattle.spread_sets.specs.SetAskers.{AreOutsidersIfAny, IsAskerOfSets, IsOutsiderIfAny, ReachesSet, SetAsking, member_set_at, no_member_set}
-use Rattle.spread_sets.specs.Sources.{OutsidersAreDearer, set_at}
-use Rattle.spread_sets.specs.Spreads.{AreTied, Shares, SharesEach, ends_in, name_of_set, paths_of}
+use Rattle.spread_sets.specs.MemberSets.{HasTree, sets_in}
+use Rattle.spread_sets.specs.SetAskers.{AreOutsidersIfAny, IsAskerOfSets, IsOutsiderIfAny, SetAsking, first_request, member_set_at, no_member_set}
+use Rattle.spread_sets.specs.Sources.{AreOutsidersDear, IsOutsiderTooCheap, set_at}
+use Rattle.spread_sets.specs.Spreads.{AreTied, Shares, SharesEach, paths_of}
+use Rattle.spread_sets.proofs.Separations.{tied_tree, told}
 
 -- the members of the set of a number
 pub members_at : (sets : List MemberSet) (k : ℕ) → k < length sets → (member_set_at sets k).members ≡ set_at (sets_in sets) k
@@ -64,50 +63,64 @@ pub asker_kept : (p : DesignProblem) (sets : List MemberSet) (old new : SetAskin
 asker_kept p sets old new same is = subst (IsAskerOfSets p sets) (sym same)
     (record { room = record { vertices = is.room.vertices; edges = is.room.edges }; trees = is.trees; known = is.known; each = is.each })
 
--- a room of which the path alone changed still has the distances
-pub reach_kept : (s : SetSurvey) (old new : Findings) (reach : Reach) →
-    new ≡ record old { path = new.path } → ReachesSet s old reach → ReachesSet s new reach
-reach_kept s old new reach same is = record {
-  known = is.known;
-  found = found_kept s.problem.now.graph s.point.now (ends_in s.problem.now (member_set_at s.sets.now reach.set).members)
-      reach.limit old new.path new same is.found;
-}
+-- The request of a set's first member, under the names by which code has read it.
 
--- an asker that is as before still has the distances
-pub reach_stays : (s : SetSurvey) (old new : SetAsking) (reach : Reach) → new ≡ old → ReachesSet s old.room reach →
-    ReachesSet s new.room reach
-reach_stays s old new reach same is = subst (λ (a : SetAsking). ReachesSet s a.room reach) (sym same) is
+-- the graph, the request and the point that code has read are those of a set
+pub record IsSeenAs (p : DesignProblem) (here : Point) (set : List ℕ) (o : Outlook) : Type 0 where
+  pub graph : o.graph.now ≡ p.graph
+  pub request : o.request.now ≡ first_request p set
+  pub point : o.point.now ≡ here
 
--- Whether outsiders are dearer.
+-- what holds of what was read holds of the set
+seen_as : (p : DesignProblem) (point : Point) (set : List ℕ) (o : Outlook) (P : Area → Request → Point → Type 0) →
+    IsSeenAs p point set o → P o.graph.now o.request.now o.point.now → P p.graph (first_request p set) point
+seen_as p point set o P is holds =
+    subst (P p.graph (first_request p set)) is.point
+    (subst (λ (r : Request). P p.graph r o.point.now) is.request (subst (λ (g : Area). P g o.request.now o.point.now) is.graph holds))
 
-abbrev Undercuts : DesignProblem → Point → List ℕ → Bool → Area → Request → Type 0
-Undercuts p point set undercut g r =
-    MatchBool undercut (CostAtLeast g point (request_ends r) (paths_of p set) (cost g point r.path.edges + point.scale) → ⊥)
-    (CostAtLeast g point (request_ends r) (paths_of p set) (cost g point r.path.edges + point.scale))
+-- what holds of the set holds of what was read
+as_seen : (p : DesignProblem) (point : Point) (set : List ℕ) (o : Outlook) (P : Area → Request → Point → Type 0) →
+    IsSeenAs p point set o → P p.graph (first_request p set) point → P o.graph.now o.request.now o.point.now
+as_seen p point set o P is holds =
+    subst (λ (g : Area). P g o.request.now o.point.now) (sym is.graph)
+    (subst (λ (r : Request). P p.graph r o.point.now) (sym is.request) (subst (P p.graph (first_request p set)) (sym is.point) holds))
 
--- under the names by which code has read the graph and the first member's request
-pub undercut_as : (p : DesignProblem) (point : Point) (set : List ℕ) (undercut : Bool) (g : Area) (r : Request) →
-    g ≡ p.graph → r ≡ request_at p.paths (name_of_set set) → Undercuts p point set undercut g r →
-    MatchBool undercut (OutsidersAreDearer p point set → ⊥) (OutsidersAreDearer p point set)
-undercut_as p point set undercut g r same_graph same_request tells =
-    subst (λ (q : Request). Undercuts p point set undercut p.graph q) same_request (subst (λ (h : Area). Undercuts p point set undercut h r) same_graph tells)
+-- the tree of the members' paths
+pub tree_seen : (p : DesignProblem) (point : Point) (s : MemberSet) (o : Outlook) → IsProblem p → HasTree p s →
+    AreTied p point s.members → IsSeenAs p point s.members o → IsTiedHere o (paths_of p s.members) s.tree
+tree_seen p point s o kept has tied is =
+    as_seen p point s.members o
+    (λ g r q. IsTiedTree g q (request_ends r) (cost g q r.path.edges) (paths_of p s.members) s.tree) is (tied_tree p point s kept has tied)
 
--- Outsiders as answers on the sets.
+-- whether each outsider costs at least the scale more
+pub lead_seen : (p : DesignProblem) (point : Point) (set : List ℕ) (leads : Bool) (o : Outlook) → IsSeenAs p point set o →
+    MatchBool leads (AreOutsidersDearHere o (paths_of p set)) (AreOutsidersDearHere o (paths_of p set) → ⊥) →
+    MatchBool leads (AreOutsidersDear p point set) (AreOutsidersDear p point set → ⊥)
+lead_seen p point set leads o is tells =
+    seen_as p point set o
+    (λ g r q. MatchBool leads (CostAtLeast g q (request_ends r) (paths_of p set) (cost g q r.path.edges + q.scale))
+    (CostAtLeast g q (request_ends r) (paths_of p set) (cost g q r.path.edges + q.scale) → ⊥)) is tells
 
--- what is told of a set whose members tie
-answer_of : (p : DesignProblem) (point : Point) (set : List ℕ) (outsider : Option (List ℕ)) → AreTied p point set →
-    IsOutsiderIfAny p point set outsider → IsSetAnswer p point set outsider
-answer_of p point set None tied dearer = record { tied = tied; dearer = dearer }
-answer_of p point set (Some es) tied cheap = cheap
+-- the outsider that was found, or that there is none
+pub found_seen : (p : DesignProblem) (point : Point) (set es : List ℕ) (found : Bool) (o : Outlook) → IsSeenAs p point set o →
+    MatchBool found (IsCheapestOutsiderHere o (paths_of p set) es) (AreOutsidersDearHere o (paths_of p set)) →
+    MatchBool found (IsOutsiderTooCheap p point set es) (AreOutsidersDear p point set)
+found_seen p point set es found o is tells =
+    told p point set es found
+    (seen_as p point set o
+    (λ g r q. MatchBool found (IsCheapestOutsider g q (request_ends r) (paths_of p set) (cost g q r.path.edges + q.scale) es)
+    (CostAtLeast g q (request_ends r) (paths_of p set) (cost g q r.path.edges + q.scale))) is tells)
 
-pub answers_of : (p : DesignProblem) (point : Point) (sets : List MemberSet) (outsiders : List (Option (List ℕ))) →
-    All (AreTied p point) (sets_in sets) → AreOutsidersIfAny p point sets outsiders → AreSetAnswers p point (sets_in sets) outsiders
-answers_of p point sets outsiders tied told =
+-- what is told of each set with its tree is told of each set
+pub told_of_sets : (p : DesignProblem) (point : Point) (sets : List MemberSet) (outsiders : List (Option (List ℕ))) →
+    length outsiders ≡ length sets →
+    ((k : ℕ) → k < length sets → IsOutsiderIfAny p point (member_set_at sets k).members (get_or outsiders k None)) →
+    AreOutsidersIfAny p point (sets_in sets) outsiders
+told_of_sets p point sets outsiders count told =
     let many = length-map sets (λ (s : MemberSet). s.members) in
     record {
-      count = told.count ∙ sym many;
+      count = count ∙ sym many;
       each = λ k k_in.
           let within : k < length sets = omega (arith, k_in, many) in
-          answer_of p point (set_at (sets_in sets) k) (get_or outsiders k None) (tied k [] k_in)
-          (subst (λ (set : List ℕ). IsOutsiderIfAny p point set (get_or outsiders k None)) (members_at sets k within) (told.each k within));
+          subst (λ (set : List ℕ). IsOutsiderIfAny p point set (get_or outsiders k None)) (members_at sets k within) (told k within);
     }

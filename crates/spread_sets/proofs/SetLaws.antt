@@ -25,15 +25,15 @@ line_set p set is =
     }
 
 -- a path by itself
-lone_set : (p : DesignProblem) (path : ℕ) → path < length p.paths → IsMemberSet p (path ∷ [])
+lone_set : (p : DesignProblem) (path : ℕ) → path < length p.requests → IsMemberSet p (path ∷ [])
 lone_set p path known = record {
   some = omega arith;
-  known = All-cons (λ i. i < length p.paths) path [] known (All-nil (λ i. i < length p.paths));
-  ends = All-cons (λ i. request_ends (request_at p.paths i) ≡ ends_in p (path ∷ [])) path [] refl
-      (All-nil (λ i. request_ends (request_at p.paths i) ≡ ends_in p (path ∷ [])));
+  known = All-cons (λ i. i < length p.requests) path [] known (All-nil (λ i. i < length p.requests));
+  ends = All-cons (λ i. request_ends (request_at p.requests i) ≡ ends_in p (path ∷ [])) path [] refl
+      (All-nil (λ i. request_ends (request_at p.requests i) ≡ ends_in p (path ∷ [])));
 }
 
-set_kept : (p : DesignProblem) (lines : List (List ℕ)) (path : ℕ) → All (IsSetOf p) lines → path < length p.paths → IsMemberSet p (set_of lines path)
+set_kept : (p : DesignProblem) (lines : List (List ℕ)) (path : ℕ) → All (IsSetOf p) lines → path < length p.requests → IsMemberSet p (set_of lines path)
 set_kept p [] path are known = lone_set p path known
 set_kept p (set ∷ lines) path are known = by_place (stands_in path set) (set_kept p lines path (All-tail (IsSetOf p) set lines are) known)
   where
@@ -44,4 +44,4 @@ set_kept p (set ∷ lines) path are known = by_place (stands_in path set) (set_k
 pub all_sets_are : (p : DesignProblem) (lines : List (List ℕ)) → AreSetsOf p lines → AreMemberSets p (all_sets p lines)
 all_sets_are p lines are =
     All-map (IsMemberSet p) (set_of lines) _
-    (all_kept (λ path. IsMemberSet p (set_of lines path)) (is_first lines) 0 (length p.paths) (λ k from below is. set_kept p lines k are.each (omega arith)))
+    (all_kept (λ path. IsMemberSet p (set_of lines path)) (is_first lines) 0 (length p.requests) (λ k from below is. set_kept p lines k are.each (omega arith)))

@@ -1,15 +1,16 @@
 -- Spread-fit costs meet the forms of all rows, and under them the cheapest paths are the members.
-use Rattle.std.proofs.Common.{◌≡◌, ◌≢◌, ℕ, suc, ◌+◌, ◌≤◌, refl, sym, subst, inl, inr, get_or, List, [], ◌∷◌, length, arith, Bool, true, false}
+use Rattle.std.proofs.Common.{◌≡◌, ◌≢◌, ℕ, ◌+◌, ◌≤◌, refl, sym, subst, inl, inr, get_or, List, [], ◌∷◌, length, arith, Bool, true, false}
 use Rattle.std.specs.Prelude.{ℤ, pos, ◌-ℤ◌, ◌≤ℤ◌, ◌⊎◌, All, Contains}
 use Rattle.std.proofs.lemmas.Int.{ints}
 use Rattle.std.proofs.lemmas.List.Elements.{All-contains, All-cons, All-map, All-nil}
 use Rattle.cost_base.specs.Lists.{same_bytes}
 use Rattle.cost_base.proofs.ByteLemmas.{same_bytes-true, same_bytes-same}
+use Rattle.cost_base.proofs.ListLemmas.{contains_later}
 use Rattle.area_graph.specs.Paths.{IsPathOf}
 use Rattle.area_graph.specs.Costs.{at_costs, cost}
 use Rattle.design_problem.specs.Problems.{DesignProblem, IsProblem}
 use Rattle.design_problem.proofs.AtCosts.{value_at_costs}
-use Rattle.spread_sets.specs.declared.spread.SetRow.TheVariants.{Rival, Same}
+use Rattle.spread_sets.specs.declared.spread.SetRow.TheVariants.{Outsider, Same}
 use Rattle.spread_sets.specs.Spreads.{IsNamed, IsSpreadFit, Shares, all_sets, cost_of_set, edges_of, ends_in, name_of_set, form_of_set_row, paths_of}
 use Rattle.spread_sets.specs.MemberSets.{IsMemberSet}
 use Rattle.spread_sets.specs.Laws.{CheapestAreMembers, MeetsSetRows, SpreadMeansMet}
@@ -48,7 +49,7 @@ set_shares p sets w set kept count meets has =
       dearer = λ es outsider.
           dearer (cost_of es) (cost_of (edges_of p first))
           (subst (λ (z : ℤ). pos 0 ≤ℤ z) (between_at p w (edges_of p first) es kept count)
-          (meets (Rival first es) (set, named, outsider)));
+          (meets (Outsider first es) (set, named, outsider)));
     }
 
 pub spread_is_met : SpreadMeansMet
@@ -62,9 +63,6 @@ spread_is_met p lines w kept are inside = (
 )
 
 -- The cheapest paths.
-
-contains_later : {X : Type 0} (x : X) (xs : List X) (y : X) → Contains xs y → Contains (x ∷ xs) y
-contains_later x xs y has = (suc has.0, omega (arith, has.1), has.2)
 
 -- a path is one of the members' or none of them
 listed_or : (paths : List (List ℕ)) (es : List ℕ) → Contains paths es ⊎ All (λ w. es ≢ w) paths

@@ -62,13 +62,13 @@ form_one_more p first second =
     (one_back (pos (fixed_cost p.graph second)) (pos (fixed_cost p.graph first)))
 
 pub tie_is : (p : DesignProblem) (row : Row) (first second : ℕ) (form more : Form) → row.request ≡ first →
-    row.rival ≡ edges_of p second → IsRouteOf p.graph (slice_get p.paths first) (edges_of p second) →
+    row.rival ≡ edges_of p second → IsRouteOf p.graph (slice_get p.requests first) (edges_of p second) →
     form ≡ form_of_row p row → more ≡ record form { constant = form.constant +ℤ pos 1 } →
     more ≡ form_of_tie p.graph (length p.low) (edges_of p first) (edges_of p second)
 tie_is p row first second form more is_first is_second route is_form is_more =
-    let found = request_of_route p.graph p.paths first no_request (edges_of p second) route in
-    let wanted : path_edges (slice_get p.paths row.request) ≡ edges_of p first =
-    ap (λ (k : ℕ). path_edges (slice_get p.paths k)) is_first ∙ ap path_edges found.is_there in
+    let found = request_of_route p.graph p.requests first no_request (edges_of p second) route in
+    let wanted : path_edges (slice_get p.requests row.request) ≡ edges_of p first =
+    ap (λ (k : ℕ). path_edges (slice_get p.requests k)) is_first ∙ ap path_edges found.is_there in
     let between : form ≡ form_between p.graph (length p.low) (edges_of p first) (edges_of p second) =
     is_form ∙ ap (λ (es : List ℕ). form_between p.graph (length p.low) es row.rival) wanted
     ∙ ap (λ (es : List ℕ). form_between p.graph (length p.low) (edges_of p first) es) is_second in

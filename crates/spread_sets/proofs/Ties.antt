@@ -68,7 +68,8 @@ pub tie_rows_true : (p : DesignProblem) (whole sets : List (List ℕ)) → All (
 tie_rows_true p whole [] all = All-nil (IsSetRow p whole)
 tie_rows_true p whole (set ∷ sets) all =
     All-append (IsSetRow p whole) (ties_in set) (tie_rows sets)
-    (ties_true p whole set (name_of_set set) set (record { listed = All-head (Contains whole) set sets all; first = refl }) (λ k d k_in. listed_at set k d k_in))
+    (ties_true p whole set (name_of_set set) set (record { listed = All-head (Contains whole) set sets all; first = refl })
+    (λ k d k_in. listed_at set k d k_in))
     (tie_rows_true p whole sets (All-tail (Contains whole) set sets all))
 
 -- what begins a search

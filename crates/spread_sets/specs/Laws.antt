@@ -50,8 +50,8 @@ IsSpreadFoundSettled (Undecided rows tree) = ⊥
 
 -- The budget can't be used up: no earnest tree over the box at the greatest bound, by the sets of these lines and the
 -- paths in no line, has an undone entry and exactly as many entries as the budget.
-abbrev pub CannotBeUndecidedOnSpread : DesignProblem → List (List ℕ) → ℕ → ℕ → Type 0
-CannotBeUndecidedOnSpread p lines top nodes =
+abbrev pub IsSufficientForSpread : DesignProblem → List (List ℕ) → ℕ → ℕ → Type 0
+IsSufficientForSpread p lines top nodes =
     (rows : List SetRow) (tree : List Entry) → All (IsSetRow p (all_sets p lines)) rows →
     IsEarnestOver (SharesEach p (all_sets p lines)) (IsFormOfSetRow p (all_sets p lines)) top (forms_of_set_rows p rows) (whole_box p) tree →
     Contains tree Undone → entry_count tree ≡ nodes → ⊥
@@ -59,11 +59,11 @@ CannotBeUndecidedOnSpread p lines top nodes =
 -- where the budget can't be used up, what is found is spread-fit costs, or that there are none
 abbrev pub SpreadSettlesIfSufficient : Type 0
 SpreadSettlesIfSufficient =
-    (p : DesignProblem) (lines : List (List ℕ)) (top nodes : ℕ) (found : Spread) → CannotBeUndecidedOnSpread p lines top nodes →
+    (p : DesignProblem) (lines : List (List ℕ)) (top nodes : ℕ) (found : Spread) → IsSufficientForSpread p lines top nodes →
     IsSpreadFound p lines top nodes found → IsSpreadFoundSettled found
 
 -- a budget of twice as many entries as the box at the greatest bound has points, less one, can't be used up
 abbrev pub SpreadSufficientIfLarge : Type 0
 SpreadSufficientIfLarge =
     (p : DesignProblem) (lines : List (List ℕ)) (top nodes : ℕ) → IsProblem p → 2 * points (whole_box p) ≤ nodes + 1 →
-    CannotBeUndecidedOnSpread p lines top nodes
+    IsSufficientForSpread p lines top nodes

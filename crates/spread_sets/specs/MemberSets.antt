@@ -9,8 +9,8 @@ use Rattle.spread_sets.specs.Spreads.{ends_in, name_of_set, paths_of}
 -- the numbers of wanted paths, at least one, that lead between the same ends without the same edges
 pub record IsMemberSet (p : DesignProblem) (set : List ℕ) : Type 0 where
   pub some : 0 < length set
-  pub known : All (λ path. path < length p.paths) set
-  pub ends : All (λ path. request_ends (request_at p.paths path) ≡ ends_in p set) set
+  pub known : All (λ path. path < length p.requests) set
+  pub ends : All (λ path. request_ends (request_at p.requests path) ≡ ends_in p set) set
 
 -- each set is one of wanted paths with one pair of ends
 abbrev pub AreMemberSets : DesignProblem → List (List ℕ) → Type 0

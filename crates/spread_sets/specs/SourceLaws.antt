@@ -5,26 +5,26 @@ use Rattle.std.specs.Prelude.{ℤ, pos, ◌+ℤ◌, ◌-ℤ◌, ◌*ℤ◌, ◌�
 use Rattle.std.proofs.lemmas.Int.{ints}
 use Rattle.std.proofs.lemmas.List.Elements.{All-contains, Contains-append_left, Contains-append_right}
 use Rattle.whole_numbers.proofs.Ring.{var, num, ◌⊕◌, ◌⊖◌, ◌⊗◌, ring}
+use Rattle.whole_numbers.proofs.FractionLaws.{nat_cancel}
 use Rattle.area_graph.specs.declared.Point.{Point}
 use Rattle.area_graph.specs.Paths.{Ends, IsPathOf}
 use Rattle.area_graph.specs.Costs.{at_costs, cost}
 use Rattle.design_problem.specs.declared.problem.Request.{Request}
 use Rattle.design_problem.specs.Forms.{Form}
 use Rattle.design_problem.specs.Forms.{dot, value_for_costs, value_at}
-use Rattle.design_problem.specs.Problems.{DesignProblem, IsProblem, request_ends, no_request, request_at}
+use Rattle.design_problem.specs.Problems.{DesignProblem, IsProblem, request_ends, no_request, request_at, IsProblemOnGraph}
 use Rattle.design_problem.specs.Rows.{fixed_cost, form_between}
 use Rattle.design_problem.proofs.AtCosts.{value_at_costs}
 use Rattle.design_problem.proofs.FormBounds.{simple_form_small}
 use Rattle.form_search.specs.Sources.{IsTrueForm, scaled}
-use Rattle.cost_branching.specs.Candidates.{edge_lists}
-use Rattle.cost_branching.specs.Rivals.{IsProblemOnGraph}
+use Rattle.cost_branching.specs.PossibleForms.{edge_lists}
 use Rattle.cost_branching.specs.SourceLaws.{at_least, contains-map, multiple_divided, path_listed, scaled_cost, small_value, value_between}
 use Rattle.set_separation.specs.Outsiders.{IsOutsider}
 use Rattle.spread_sets.specs.declared.spread.SetRow.{SetRow}
-use Rattle.spread_sets.specs.declared.spread.SetRow.TheVariants.{Rival, Same}
+use Rattle.spread_sets.specs.declared.spread.SetRow.TheVariants.{Outsider, Same}
 use Rattle.spread_sets.specs.Spreads.{IsSetRow, Shares, SharesEach, cost_of_set, edges_of, ends_in, name_of_set, form_of_set_row, form_of_tie, paths_of}
 use Rattle.spread_sets.specs.MemberSets.{AreMemberSets, IsMemberSet}
-use Rattle.spread_sets.specs.Sources.{IsTrueOfSets, candidates_of, forms_of_pairs}
+use Rattle.spread_sets.specs.Sources.{IsTrueOfSets, possible_forms_of, forms_of_pairs}
 
 -- The paths of members.
 
@@ -34,15 +34,15 @@ first_listed [] some = absurd (omega arith)
 first_listed (i ∷ more) some = (0, omega arith, refl)
 
 -- a member is a wanted path
-pub member_known : (p : DesignProblem) (set : List ℕ) (i : ℕ) → IsMemberSet p set → Contains set i → i < length p.paths
-member_known p set i is has = All-contains (λ j. j < length p.paths) set i is.known has
+pub member_known : (p : DesignProblem) (set : List ℕ) (i : ℕ) → IsMemberSet p set → Contains set i → i < length p.requests
+member_known p set i is has = All-contains (λ j. j < length p.requests) set i is.known has
 
 -- a member's path is a simple path of the set's request
 pub member_path : (p : DesignProblem) (set : List ℕ) (i : ℕ) → IsProblem p → IsMemberSet p set → Contains set i →
     IsPathOf p.graph (ends_in p set) (edges_of p i)
 member_path p set i kept is has =
-    subst (λ (ends : Ends). IsPathOf p.graph ends (edges_of p i)) (All-contains (λ j. request_ends (request_at p.paths j) ≡ ends_in p set) set i is.ends has)
-    (kept.paths i no_request (member_known p set i is has))
+    subst (λ (ends : Ends). IsPathOf p.graph ends (edges_of p i)) (All-contains (λ j. request_ends (request_at p.requests j) ≡ ends_in p set) set i is.ends has)
+    (kept.requests i no_request (member_known p set i is has))
 
 -- what a member costs where the set shares
 pub member_cost : (p : DesignProblem) (point : Point) (set : List ℕ) (i : ℕ) → Shares p point set → Contains set i →
@@ -70,21 +70,21 @@ value_of_tie p point first second kept count =
 
 -- Every row's form holds where each set shares.
 
--- the form of a rival is at least 0 where each set shares
-rival_met : (p : DesignProblem) (sets : List (List ℕ)) (set es : List ℕ) (point : Point) → IsProblem p →
+-- the form of an outsider is at least 0 where each set shares
+outsider_met : (p : DesignProblem) (sets : List (List ℕ)) (set es : List ℕ) (point : Point) → IsProblem p →
     length point.values ≡ length p.low → Contains sets set → IsOutsider p.graph (ends_in p set) (paths_of p set) es →
     SharesEach p sets point →
     pos 0 ≤ℤ value_at (form_between p.graph (length p.low) (edges_of p (name_of_set set)) es) point
-rival_met p sets set es point kept count has outsider each =
+outsider_met p sets set es point kept count has outsider each =
     let shares = All-contains (Shares p point) sets set each has in
     subst (λ (z : ℤ). pos 0 ≤ℤ z) (sym (value_between p point (edges_of p (name_of_set set)) es kept count))
     (at_least (cost p.graph point es) (cost_of_set p point set) point.scale (shares.dearer es outsider))
 
--- the form of a rival is a true form
-rival_holds : (p : DesignProblem) (sets : List (List ℕ)) (set es : List ℕ) → IsProblemOnGraph p → AreMemberSets p sets →
+-- the form of an outsider is a true form
+outsider_holds : (p : DesignProblem) (sets : List (List ℕ)) (set es : List ℕ) → IsProblemOnGraph p → AreMemberSets p sets →
     Contains sets set → IsOutsider p.graph (ends_in p set) (paths_of p set) es →
     IsTrueForm (length p.low) (SharesEach p sets) (form_between p.graph (length p.low) (edges_of p (name_of_set set)) es)
-rival_holds p sets set es kept are has outsider =
+outsider_holds p sets set es kept are has outsider =
     let is = All-contains (IsMemberSet p) sets set are has in
     let wanted = member_path p set (name_of_set set) kept.problem is (first_listed set is.some) in
     let small = simple_form_small p.graph (length p.low) (ends_in p set) (ends_in p set) (edges_of p (name_of_set set)) es
@@ -93,7 +93,7 @@ rival_holds p sets set es kept are has outsider =
       count = small.count;
       sizes = small.sizes;
       values = λ w count each. small_value (length p.low) (form_between p.graph (length p.low) (edges_of p (name_of_set set)) es) w small each;
-      met = λ point count each. rival_met p sets set es point kept.problem count has outsider each;
+      met = λ point count each. outsider_met p sets set es point kept.problem count has outsider each;
     }
 
 -- two numbers differ by less than 2^27 where both differences, less 1, are below it in size
@@ -160,9 +160,9 @@ tie_holds p sets set i j kept are has has_i has_j =
 -- the form of each row of the sets is a true form
 row_holds : (p : DesignProblem) (sets : List (List ℕ)) (row : SetRow) → IsProblemOnGraph p → AreMemberSets p sets →
     IsSetRow p sets row → IsTrueForm (length p.low) (SharesEach p sets) (form_of_set_row p row)
-row_holds p sets (Rival name rival) kept are is =
-    subst (λ (k : ℕ). IsTrueForm (length p.low) (SharesEach p sets) (form_between p.graph (length p.low) (edges_of p k) rival)) is.1.first
-    (rival_holds p sets is.0 rival kept are is.1.listed is.2)
+row_holds p sets (Outsider name outsider) kept are is =
+    subst (λ (k : ℕ). IsTrueForm (length p.low) (SharesEach p sets) (form_between p.graph (length p.low) (edges_of p k) outsider)) is.1.first
+    (outsider_holds p sets is.0 outsider kept are is.1.listed is.2)
 row_holds p sets (Same name i j) kept are is = tie_holds p sets is.0 i j kept are is.1.listed is.2 is.3
 
 -- a true form is small, and at least 0 at each point where each set shares
@@ -174,17 +174,17 @@ set_forms_hold p sets form is =
 pub set_row_met : (p : DesignProblem) (sets : List (List ℕ)) (row : SetRow) (point : Point) → IsProblem p →
     length point.values ≡ length p.low → IsSetRow p sets row → SharesEach p sets point →
     pos 0 ≤ℤ value_at (form_of_set_row p row) point
-set_row_met p sets (Rival name rival) point kept count is each =
-    subst (λ (k : ℕ). pos 0 ≤ℤ value_at (form_between p.graph (length p.low) (edges_of p k) rival) point) is.1.first
-    (rival_met p sets is.0 rival point kept count is.1.listed is.2 each)
+set_row_met p sets (Outsider name outsider) point kept count is each =
+    subst (λ (k : ℕ). pos 0 ≤ℤ value_at (form_between p.graph (length p.low) (edges_of p k) outsider) point) is.1.first
+    (outsider_met p sets is.0 outsider point kept count is.1.listed is.2 each)
 set_row_met p sets (Same name i j) point kept count is each = tie_met p sets is.0 i j point kept count is.1.listed is.2 is.3 each
 
--- Every true form stands in the list of the candidates.
+-- Every true form stands in the list of the possible forms.
 
 -- the form of a wanted path and a short list of edges is among those of all such pairs
-pair_listed : (p : DesignProblem) (form : List ℕ → List ℕ → Form) (paths : List Request) (k : ℕ) (es : List ℕ) →
-    k < length paths → Contains (edge_lists p) es →
-    Contains (forms_of_pairs p form paths) (form (request_at paths k).path.edges es)
+pair_listed : (p : DesignProblem) (form : List ℕ → List ℕ → Form) (requests : List Request) (k : ℕ) (es : List ℕ) →
+    k < length requests → Contains (edge_lists p) es →
+    Contains (forms_of_pairs p form requests) (form (request_at requests k).path.edges es)
 pair_listed p form [] k es known has = absurd (omega arith)
 pair_listed p form (r ∷ rs) zero es known has =
     Contains-append_left (map (form r.path.edges) (edge_lists p)) (forms_of_pairs p form rs) (form r.path.edges es)
@@ -193,50 +193,35 @@ pair_listed p form (r ∷ rs) (suc k) es known has =
     Contains-append_right (map (form r.path.edges) (edge_lists p)) (forms_of_pairs p form rs)
     (form (request_at rs k).path.edges es) (pair_listed p form rs k es (omega arith) has)
 
--- the form of each row of the sets is among the candidates
+-- the form of each row of the sets is among the possible forms
 row_listed : (p : DesignProblem) (sets : List (List ℕ)) (row : SetRow) → IsProblemOnGraph p → AreMemberSets p sets →
-    IsSetRow p sets row → Contains (candidates_of p) (form_of_set_row p row)
-row_listed p sets (Rival name rival) kept are is =
+    IsSetRow p sets row → Contains (possible_forms_of p) (form_of_set_row p row)
+row_listed p sets (Outsider name outsider) kept are is =
     let set = is.0 in
     let is_set = All-contains (IsMemberSet p) sets set are is.1.listed in
     let between = form_between p.graph (length p.low) in
-    let known : name < length p.paths =
-    subst (λ (k : ℕ). k < length p.paths) is.1.first
+    let known : name < length p.requests =
+    subst (λ (k : ℕ). k < length p.requests) is.1.first
     (member_known p set (name_of_set set) is_set (first_listed set is_set.some)) in
-    Contains-append_left (forms_of_pairs p between p.paths)
-    (forms_of_pairs p (form_of_tie p.graph (length p.low)) p.paths) (between (edges_of p name) rival)
-    (pair_listed p between p.paths name rival known (path_listed p (ends_in p set) rival kept.graph is.2.path))
+    Contains-append_left (forms_of_pairs p between p.requests)
+    (forms_of_pairs p (form_of_tie p.graph (length p.low)) p.requests) (between (edges_of p name) outsider)
+    (pair_listed p between p.requests name outsider known (path_listed p (ends_in p set) outsider kept.graph is.2.path))
 row_listed p sets (Same name i j) kept are is =
     let set = is.0 in
     let is_set = All-contains (IsMemberSet p) sets set are is.1.listed in
     let tie = form_of_tie p.graph (length p.low) in
-    Contains-append_right (forms_of_pairs p (form_between p.graph (length p.low)) p.paths) (forms_of_pairs p tie p.paths) (tie (edges_of p i) (edges_of p j))
-    (pair_listed p tie p.paths i (edges_of p j) (member_known p set i is_set is.2)
+    Contains-append_right (forms_of_pairs p (form_between p.graph (length p.low)) p.requests) (forms_of_pairs p tie p.requests)
+    (tie (edges_of p i) (edges_of p j))
+    (pair_listed p tie p.requests i (edges_of p j) (member_known p set i is_set is.2)
     (path_listed p (ends_in p set) (edges_of p j) kept.graph (member_path p set j kept.problem is_set is.3)))
 
--- each true form is among the candidates
-pub set_forms_listed : (p : DesignProblem) (sets : List (List ℕ)) (form : Form) → IsTrueOfSets p sets form → Contains (candidates_of p) form
+-- each true form is among the possible forms
+pub set_forms_listed : (p : DesignProblem) (sets : List (List ℕ)) (form : Form) → IsTrueOfSets p sets form → Contains (possible_forms_of p) form
 set_forms_listed p sets form is =
-    subst (λ (f : Form). Contains (candidates_of p) f) is.of_row.same
+    subst (λ (f : Form). Contains (possible_forms_of p) f) is.of_row.same
     (row_listed p sets is.of_row.row is.kept is.are is.of_row.is_row)
 
 -- Sets that share at multiples of costs share at the costs.
-
--- numbers whose multiples by the scale are equal: the one is at most the other
-same_less : (a b scale : ℕ) → 0 < scale → a * scale ≡ b * scale → a ≤ b
-same_less a b scale some same = divided_less a b scale some (omega arith)
-  where
-    divided_less : (a b scale : ℕ) → 0 < scale → a * scale + scale ≤ b * scale + scale → a ≤ b
-    divided_less a b scale some more =
-        (let found = multiple_divided a (b + 1) scale some (let e : (b + 1) * scale ≡ b * scale + scale = omega arith in
-        omega arith) in omega arith)
-
--- numbers whose multiples by the scale are equal are equal
-same_divided : (a b scale : ℕ) → 0 < scale → a * scale ≡ b * scale → a ≡ b
-same_divided a b scale some same =
-    let less = same_less a b scale some same in
-    let more = same_less b a scale some (sym same) in
-    omega arith
 
 -- a set that shares at multiples of costs shares at the costs
 set_free : (p : DesignProblem) (w : List ℕ) (scale : ℕ) (set : List ℕ) → 0 < scale → Shares p (scaled w scale) set → Shares p (at_costs w) set
@@ -244,7 +229,7 @@ set_free p w scale set some shares = record {
   tied = λ k d k_in.
       let es = get_or (paths_of p set) k d in
       let first = edges_of p (name_of_set set) in
-      same_divided (cost p.graph (at_costs w) es) (cost p.graph (at_costs w) first) scale some
+      nat_cancel scale (cost p.graph (at_costs w) es) (cost p.graph (at_costs w) first) some
       (sym (scaled_cost p.graph w scale es) ∙ shares.tied k d k_in ∙ scaled_cost p.graph w scale first);
   dearer = λ es outsider.
       let first = edges_of p (name_of_set set) in

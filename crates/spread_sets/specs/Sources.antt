@@ -1,16 +1,16 @@
--- The source of a search for spread-fit costs: the sets of a problem, the rows that are known, and the forms that are true.
+-- The source of a search for spread-fit costs: the sets of a problem, the rows that are known, and the forms that are
+-- true.
 use Rattle.std.specs.Prelude.{◌≡◌, ℕ, ◌+◌, ◌<◌, List, [], ◌∷◌, ◌++◌, map, length, drop, slice_index_or, All, AllPairs}
 use Rattle.area_graph.specs.declared.Point.{Point}
 use Rattle.area_graph.specs.Costs.{cost}
-use Rattle.design_problem.specs.declared.form.CostBox.{CostBox}
+use Rattle.design_problem.specs.declared.boxes.CostBox.{CostBox}
 use Rattle.design_problem.specs.Forms.{Form}
 use Rattle.design_problem.specs.declared.problem.Request.{Request}
-use Rattle.design_problem.specs.Problems.{DesignProblem}
+use Rattle.design_problem.specs.Problems.{DesignProblem, IsProblemOnGraph}
 use Rattle.design_problem.specs.Rows.{form_between}
 use Rattle.form_search.specs.Finds.{IsSearchResult}
 use Rattle.form_search.specs.declared.found.Found.{Found}
-use Rattle.cost_branching.specs.Candidates.{edge_lists}
-use Rattle.cost_branching.specs.Rivals.{IsProblemOnGraph}
+use Rattle.cost_branching.specs.PossibleForms.{edge_lists}
 use Rattle.set_separation.specs.Outsiders.{CostAtLeast, IsOutsider}
 use Rattle.spread_sets.specs.declared.spread.SetRow.{SetRow}
 use Rattle.spread_sets.specs.declared.spread.SetRow.TheVariants.{Same}
@@ -35,12 +35,12 @@ pub record IsTrueOfSets (p : DesignProblem) (sets : List (List ℕ)) (form : For
   pub of_row : IsFormOfSetRow p sets form
 
 -- every other simple path of the members' request costs at least the scale more
-abbrev pub OutsidersAreDearer : DesignProblem → Point → List ℕ → Type 0
-OutsidersAreDearer p point set = CostAtLeast p.graph point (ends_in p set) (paths_of p set) (cost_of_set p point set + point.scale)
+abbrev pub AreOutsidersDear : DesignProblem → Point → List ℕ → Type 0
+AreOutsidersDear p point set = CostAtLeast p.graph point (ends_in p set) (paths_of p set) (cost_of_set p point set + point.scale)
 
--- a rival of a set that costs less at a point than its first member and the scale
+-- an outsider of a set that costs less at a point than its first member and the scale
 pub record IsOutsiderTooCheap (p : DesignProblem) (point : Point) (set : List ℕ) (edges : List ℕ) : Type 0 where
-  pub rival : IsOutsider p.graph (ends_in p set) (paths_of p set) edges
+  pub outsider : IsOutsider p.graph (ends_in p set) (paths_of p set) edges
   pub cheap : cost p.graph point edges < cost_of_set p point set + point.scale
 
 -- the rows that keep two members at one cost
@@ -77,8 +77,8 @@ forms_of_pairs p form [] = []
 forms_of_pairs p form (r ∷ rs) = map (form r.path.edges) (edge_lists p) ++ forms_of_pairs p form rs
 
 -- the forms that rows of sets can have
-abbrev pub candidates_of : DesignProblem → List Form
-candidates_of p = forms_of_pairs p (form_between p.graph (length p.low)) p.paths ++ forms_of_pairs p (form_of_tie p.graph (length p.low)) p.paths
+abbrev pub possible_forms_of : DesignProblem → List Form
+possible_forms_of p = forms_of_pairs p (form_between p.graph (length p.low)) p.requests ++ forms_of_pairs p (form_of_tie p.graph (length p.low)) p.requests
 
 -- what a search over a box found, by the forms of rows of the sets
 pub record IsSpreadSought (p : DesignProblem) (sets : List (List ℕ)) (top nodes : ℕ) (box : CostBox) (sought : Sought) : Type 0 where
@@ -92,8 +92,8 @@ pub record IsFoundInStep (p : DesignProblem) (sets : List (List ℕ)) (top nodes
   pub lists : IsPoolOfSets source forms
   pub result : IsSearchResult (SharesEach p sets) top nodes forms box found
 
--- The rows of the set at a place were put up to those of its members before a number: with the rows of the members from that
--- one on they are all the rows of the set.
+-- The rows of the set at a place were put up to those of its members before a number: with the rows of the members from
+-- that one on they are all the rows of the set.
 pub record AreTiesPut (place number : ℕ) (old : KnownSets) (old_forms : List Form) (new : KnownSets) (new_forms : List Form) : Type 0 where
   pub before : ℕ
   pub next : number ≡ before + 1

@@ -12,7 +12,7 @@ use Rattle.design_problem.specs.Rows.{box_of, fixed_cost, form_between, uses}
 use Rattle.set_reader.specs.Reading.{stands_in}
 use Rattle.set_separation.specs.Outsiders.{CostAtLeast, IsOutsider}
 use Rattle.spread_sets.specs.declared.spread.SetRow.{SetRow}
-use Rattle.spread_sets.specs.declared.spread.SetRow.TheVariants.{Rival, Same}
+use Rattle.spread_sets.specs.declared.spread.SetRow.TheVariants.{Outsider, Same}
 
 -- the set in which a path stands: one of the sets of lines, or the path by itself
 abbrev pub set_of : List (List ℕ) → ℕ → List ℕ
@@ -29,11 +29,11 @@ is_first lines path = name_of_set (set_of lines path) == path
 
 -- the sets of a problem, in rising order of their names: those of lines, and each path in no line by itself
 abbrev pub all_sets : DesignProblem → List (List ℕ) → List (List ℕ)
-all_sets p lines = map (set_of lines) (filter (is_first lines) (numbers_from 0 (length p.paths)))
+all_sets p lines = map (set_of lines) (filter (is_first lines) (numbers_from 0 (length p.requests)))
 
 -- the edges of a path
 abbrev pub edges_of : DesignProblem → ℕ → List ℕ
-edges_of p path = (request_at p.paths path).path.edges
+edges_of p path = (request_at p.requests path).path.edges
 
 -- the edges of each member of a set
 abbrev pub paths_of : DesignProblem → List ℕ → List (List ℕ)
@@ -41,7 +41,7 @@ paths_of p set = map (edges_of p) set
 
 -- the ends between which the members lead, and the excluded edges of their request
 abbrev pub ends_in : DesignProblem → List ℕ → Ends
-ends_in p set = request_ends (request_at p.paths (name_of_set set))
+ends_in p set = request_ends (request_at p.requests (name_of_set set))
 
 -- what the first member costs at a point
 abbrev pub cost_of_set : DesignProblem → Point → List ℕ → ℕ
@@ -71,9 +71,9 @@ pub record IsNamed (sets : List (List ℕ)) (name : ℕ) (set : List ℕ) : Type
   pub listed : Contains sets set
   pub first : name_of_set set ≡ name
 
--- a row: a rival of a set is a simple path of the request that is no member, and two members of a set are kept at one cost
+-- a row: an outsider of a set, or two members of a set, which are kept at one cost
 abbrev pub IsSetRow : DesignProblem → List (List ℕ) → SetRow → Type 0
-IsSetRow p sets (Rival name rival) = (set : List ℕ) × IsNamed sets name set × IsOutsider p.graph (ends_in p set) (paths_of p set) rival
+IsSetRow p sets (Outsider name outsider) = (set : List ℕ) × IsNamed sets name set × IsOutsider p.graph (ends_in p set) (paths_of p set) outsider
 IsSetRow p sets (Same name i j) = (set : List ℕ) × IsNamed sets name set × Contains set i × Contains set j
 
 -- cost(second) - cost(first), in n variables
@@ -84,9 +84,9 @@ form_of_tie g n first second =
       coefficients = map (λ v. pos (uses g second v) -ℤ pos (uses g first v)) (numbers_from 0 n);
     }
 
--- the form of a row: cost(rival) - cost(first member) - 1, or cost(J) - cost(I)
+-- the form of a row: cost(outsider) - cost(first member) - 1, or cost(J) - cost(I)
 abbrev pub form_of_set_row : DesignProblem → SetRow → Form
-form_of_set_row p (Rival name rival) = form_between p.graph (length p.low) (edges_of p name) rival
+form_of_set_row p (Outsider name outsider) = form_between p.graph (length p.low) (edges_of p name) outsider
 form_of_set_row p (Same name i j) = form_of_tie p.graph (length p.low) (edges_of p i) (edges_of p j)
 
 -- the forms of rows of sets, in their order
@@ -101,12 +101,12 @@ pub record IsFormOfSetRow (p : DesignProblem) (sets : List (List ℕ)) (form : F
 
 -- the name of a row's set
 abbrev pub name_of : SetRow → ℕ
-name_of (Rival name rival) = name
+name_of (Outsider name outsider) = name
 name_of (Same name i j) = name
 
--- the rows differ in their sets, in their rivals' edges, or in their two members
+-- the rows differ in their sets, in their outsiders' edges, or in their two members
 abbrev pub SetRowsDiffer : SetRow → SetRow → Type 0
-SetRowsDiffer (Rival a rival) (Rival b other) = a ≡ b → rival ≡ other → ⊥
+SetRowsDiffer (Outsider a outsider) (Outsider b other) = a ≡ b → outsider ≡ other → ⊥
 SetRowsDiffer (Same a i j) (Same b k l) = a ≡ b → i ≡ k → j ≡ l → ⊥
-SetRowsDiffer (Rival a rival) (Same b i j) = Unit {0}
-SetRowsDiffer (Same a i j) (Rival b rival) = Unit {0}
+SetRowsDiffer (Outsider a outsider) (Same b i j) = Unit {0}
+SetRowsDiffer (Same a i j) (Outsider b outsider) = Unit {0}

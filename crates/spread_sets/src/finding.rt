@@ -2,7 +2,7 @@
 ghost use Rattle.std.specs.Prelude.{◌≡◌, ℕ, ◌≤◌, List, [], length, All, IfOk, OnOk};
 ghost use Rattle.design_problem.specs.Answers.{greatest_bound, whole_box};
 ghost use Rattle.design_problem.specs.Boxes.{IsBox};
-ghost use Rattle.cost_branching.specs.Rivals.{IsProblemOnGraph};
+ghost use Rattle.design_problem.specs.Problems.{IsProblemOnGraph};
 ghost use Rattle.form_search.specs.Finds.{IsSearchResult};
 ghost use Rattle.set_reader.specs.SpreadSets.{AreSetsOf};
 ghost use Rattle.spread_sets.specs.Answers.{IsFoundOf, IsSpreadFound};
@@ -14,8 +14,8 @@ use crate::member_sets::{MemberSet, all_sets, with_trees};
 use crate::source::{Begun, Spreads};
 use crate::spread::{SetRow, Spread};
 use cost_base::OutOfMemory;
-use cost_branching::{keeps_conditions, path_count};
-use design_problem::{CostBox, Problem, box_at, greatest_of};
+use cost_branching::request_count;
+use design_problem::{CostBox, Problem, box_at, greatest_of, keeps_problem_on_graph};
 use form_search::{FormPool, Found, search};
 use printed_rows::{PrintedTree, printed};
 use set_reader::Sets;
@@ -101,7 +101,7 @@ fn search_sets<B: Begun>(
     ensures { IfOk result (IsSpreadSought problem.now (sets_in sets.items) limits.now.top
         limits.now.nodes costs.now) }
 {
-    keeps_conditions(problem);
+    keeps_problem_on_graph(problem);
     let mut source = Spreads::<B>::new(alloc, problem, sets)?;
     let found = search_box(alloc, &mut source, costs, limits)?;
     Ok(Sought {
@@ -125,7 +125,7 @@ fn answered(
         IsSpreadSought problem.now sets limits.now.top limits.now.nodes (whole_box problem.now)
         sought → IfOk result (IsFoundOf problem.now sets limits.now.top limits.now.nodes) }
 {
-    keeps_conditions(problem);
+    keeps_problem_on_graph(problem);
     let Sought { rows, found } = sought;
     match found {
         Found::Costs(costs) => Ok(Spread::Fit(costs)),
@@ -158,8 +158,8 @@ pub fn find_spread(
     requires { AreSetsOf problem.now sets.now }
     ensures { IfOk result (IsSpreadFound problem.now sets.now limits.now.top limits.now.nodes) }
 {
-    keeps_conditions(problem);
-    let all = all_sets(alloc, sets.as_slice(), path_count(problem))?;
+    keeps_problem_on_graph(problem);
+    let all = all_sets(alloc, sets.as_slice(), request_count(problem))?;
     let grown = with_trees(alloc, problem, all)?;
     let cap = greatest_of(problem.high.as_slice());
     let costs = box_at(alloc, problem, cap)?;

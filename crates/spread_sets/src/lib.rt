@@ -1,8 +1,8 @@
 //! Costs under which the cheapest paths between two ends are exactly the wanted ones: sets of wanted paths that tie,
 //! and all other paths dearer.
 //!
-//! The search runs over two kinds of forms: those of rivals that none of a set's members is, and those that keep the
-//! members of a set at one cost.
+//! The search runs over two kinds of forms: those of outsiders of the sets, and those that keep the members of a set at
+//! one cost.
 #![tactic(auto)]
 
 mod finding;

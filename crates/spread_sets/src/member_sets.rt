@@ -103,10 +103,10 @@ pub(crate) fn all_sets(
 
 /// The request of a number.
 pub(crate) fn request_of(problem: &Problem, path: u32) -> &Request
-    requires { path < length problem.now.paths }
-    ensures { result.now ≡ request_at problem.now.paths path }
+    requires { path < length problem.now.requests }
+    ensures { result.now ≡ request_at problem.now.requests path }
 {
-    &problem.paths.as_slice()[path as usize]
+    &problem.requests.as_slice()[path as usize]
 }
 
 /// The tree of the common prefixes of the members' paths.

@@ -6,7 +6,7 @@ ghost use Rattle.spread_sets.specs.Spreads.{edges_of, form_of_tie};
 use crate::member_sets::request_of;
 use cost_base::OutOfMemory;
 use cost_branching::row_of;
-use design_problem::{Form, Problem, copied_terms, form_of};
+use design_problem::{Form, Problem, form_of};
 use std::alloc::Global;
 
 /// The form with 1 more.
@@ -15,7 +15,7 @@ fn with_one_more(alloc: Global, form: &Form) -> Result<Form, OutOfMemory>
     ensures { IfOk result
         (λ more. more ≡ record form.now { constant = form.now.constant +ℤ pos 1 }) }
 {
-    let terms = copied_terms(alloc, form.terms())?;
+    let terms = Vec::from_slice(alloc, form.terms())?;
     Ok(Form::from_terms(form.variables(), form.constant() + 1, terms))
 }
 
@@ -26,8 +26,8 @@ pub(crate) fn form_of_tie(
     first: u32,
     second: u32,
 ) -> Result<Form, OutOfMemory>
-    requires second { second < length problem.now.paths }
-    requires same_ends { IsRouteOf problem.now.graph (slice_get problem.now.paths first)
+    requires second { second < length problem.now.requests }
+    requires same_ends { IsRouteOf problem.now.graph (slice_get problem.now.requests first)
         (edges_of problem.now second) }
     ensures { IfOk result (λ form. form ≡ form_of_tie problem.now.graph (length problem.now.low)
         (edges_of problem.now first) (edges_of problem.now second)) }

@@ -1,21 +1,21 @@
 //! What asks for the outsiders of several sets at one point.
-ghost use Rattle.std.specs.Prelude.{◌≡◌, ◌+◌, ◌<◌, ◌≤◌, ◌↔◌, ℕ, All, Contains, IfOk, IsTrue, MatchBool, Some, length, slice_index};
+ghost use Rattle.std.specs.Prelude.{◌≡◌, ◌<◌, ◌↔◌, ℕ, All, IfOk, IsTrue, MatchBool, length, slice_index};
 ghost use Rattle.area_graph.specs.Costs.{cost};
-ghost use Rattle.design_problem.specs.Problems.{request_at};
 ghost use Rattle.form_search.specs.Sources.{IsCostPoint};
+ghost use Rattle.rival_separation.specs.Askers.{CanCompareWith, IsReadyToCompare, MayShare};
+ghost use Rattle.rival_separation.specs.Outlooks.{FitsOutlook, HasItsPath};
 ghost use Rattle.spread_sets.specs.MemberSets.{HasTree, IsMemberSet, sets_in};
-ghost use Rattle.spread_sets.specs.SetAskers.{AreOutsidersIfAny, CanCompareSet, IsAskerOfSets, IsOutsiderIfAny, IsReadyForSet};
-ghost use Rattle.spread_sets.specs.SetAskers.{MayReach, ReachesSet, dearer_from, member_set_at, members_seen};
-ghost use Rattle.spread_sets.specs.Sources.{OutsidersAreDearer};
-ghost use Rattle.spread_sets.specs.Spreads.{AreTied, SharesEach, edges_of, ends_in, name_of_set};
+ghost use Rattle.spread_sets.specs.SetAskers.{AreOutsidersIfAny, IsAskerOfSets, IsOutsiderIfAny, first_request};
+ghost use Rattle.spread_sets.specs.SetAskers.{member_set_at, members_seen};
+ghost use Rattle.spread_sets.specs.Sources.{AreOutsidersDear};
+ghost use Rattle.spread_sets.specs.Spreads.{AreTied, SharesEach, edges_of};
 
 use crate::member_sets::{MemberSet, first_of, most_places, request_of};
 use area_graph::{Point, path_cost};
 use cost_base::{Listed, OutOfMemory};
-use cost_branching::keeps_conditions;
-use design_problem::{Problem, Request};
-use rival_separation::{Outlook, find_distances, nothing_told, tell};
-use set_separation::{find_outsider_at_hand, is_undercut};
+use design_problem::{Problem, Request, keeps_problem_on_graph};
+use rival_separation::{Outlook, Shared, nothing_told, prepare, sorted_numbers, target_of, tell};
+use set_separation::{find_outsider_at_hand, paths_lead};
 use spf_ties::Room;
 use std::alloc::Global;
 use std::marker::Model;
@@ -26,13 +26,6 @@ struct SetSurvey<'a> {
     problem: &'a Problem,
     sets: &'a [MemberSet],
     point: &'a Point,
-}
-
-/// What a room has: the distances that serve the set of this number, those below the limit.
-#[derive(Clone, Copy)]
-struct Reach {
-    set: usize,
-    limit: u128,
 }
 
 /// What asks for the outsiders of sets at one point, again and again. Sets whose requests have one end and exclude the
@@ -58,33 +51,15 @@ impl Model for SetAsker {
     } };
 }
 
-/// What sets that share distances have in common: the end of their requests, and how many edges these exclude and the
-/// first of these.
-fn end_of(problem: &Problem, sets: &[MemberSet], number: usize) -> (u32, usize, Option<u32>) {
-    let first = match sets.get(number) {
-        Some(set) => first_of(set.members.as_slice()),
-        None => 0,
-    };
-    match problem.paths.as_slice().get(first as usize) {
-        Some(request) => {
-            let excluded = request.excluded.as_slice();
-            (request.end, excluded.len(), excluded.first().copied())
-        }
-        None => (0, 0, None),
+/// The request of a set's first member, where there are a set and such a request.
+fn request_if_any<'a>(problem: &'a Problem, set: Option<&MemberSet>) -> Option<&'a Request> {
+    match set {
+        Some(set) => problem
+            .requests
+            .as_slice()
+            .get(first_of(set.members.as_slice()) as usize),
+        None => None,
     }
-}
-
-/// The numbers of the sets, in an order in which those with one end stand together.
-fn by_end(alloc: Global, problem: &Problem, sets: &[MemberSet]) -> Result<Vec<usize>, OutOfMemory>
-    ensures known { IfOk result (λ order. All (λ k. k < length sets.now) order.items) }
-    ensures each { IfOk result (λ order. (k : ℕ) → k < length sets.now → Contains order.items k) }
-{
-    let mut order = Vec::new(alloc);
-    for number in 0..sets.len() {
-        order.push(number)?;
-    }
-    order.sort_unstable_by_key(|number| end_of(problem, sets, *number));
-    Ok(order)
 }
 
 /// The set of a number.
@@ -95,53 +70,49 @@ fn set_of_number(sets: &[MemberSet], number: usize) -> &MemberSet
     &sets[number]
 }
 
-/// The request of a set's first member.
-fn request_in<'a>(problem: &'a Problem, set: &MemberSet) -> &'a Request
-    requires { IsMemberSet problem.now set.now.members }
-    ensures { result.now ≡ request_at problem.now.paths (name_of_set set.now.members) }
-{
-    request_of(problem, first_of(set.members.as_slice()))
-}
+/// The request of the first member of the set of a number, as a part of a survey.
+fn outlook_of<'a>(survey: &SetSurvey<'a>, number: usize) -> Outlook<'a>
+    // The point is one of costs, and the number is that of a set.
+    requires point { IsCostPoint (length survey.now.problem.now.low) survey.now.point.now }
+    requires number { number < length survey.now.sets.now }
+    requires set { IsMemberSet survey.now.problem.now
+        (member_set_at survey.now.sets.now number).members }
 
-/// Whether distances found for one set serve another: their requests have one end, and exclude the same edges.
-fn have_one_end(problem: &Problem, first: &MemberSet, other: &MemberSet) -> bool
-    requires first { IsMemberSet problem.now first.now.members }
-    requires other { IsMemberSet problem.now other.now.members }
-    ensures end { IsTrue result → (ends_in problem.now first.now.members).end ≡
-        (ends_in problem.now other.now.members).end }
-    ensures excluded { IsTrue result → (ends_in problem.now first.now.members).excluded ≡
-        (ends_in problem.now other.now.members).excluded }
+    // It has the problem's graph, the point, and the request that the set's outsiders are of.
+    ensures graph { result.graph.now ≡ survey.now.problem.now.graph }
+    ensures request { result.request.now ≡ first_request survey.now.problem.now
+        (member_set_at survey.now.sets.now number).members }
+    ensures point { result.point.now ≡ survey.now.point.now }
+
+    // The request's path is a simple path of it, and the point is one for the graph.
+    ensures fits { FitsOutlook result }
+    ensures path { HasItsPath result }
 {
-    let first = request_in(problem, first);
-    let other = request_in(problem, other);
-    first.end == other.end && first.excluded.as_slice() == other.excluded.as_slice()
+    let problem = survey.problem;
+    keeps_problem_on_graph(problem);
+    let set = set_of_number(survey.sets, number);
+    Outlook {
+        graph: &problem.graph,
+        request: request_of(problem, first_of(set.members.as_slice())),
+        point: survey.point,
+    }
 }
 
 /// What a wanted path costs at a point.
 fn cost_of(problem: &Problem, path: u32, point: &Point) -> u128
     requires point { IsCostPoint (length problem.now.low) point.now }
-    requires path { path < length problem.now.paths }
+    requires path { path < length problem.now.requests }
     ensures { result ≡ cost problem.now.graph point.now (edges_of problem.now path) }
 {
-    keeps_conditions(problem);
+    keeps_problem_on_graph(problem);
     path_cost(&problem.graph, &request_of(problem, path).path, point)
-}
-
-/// What an outsider of a set costs at least where the members share: what the first of them costs, and the scale.
-fn least_dearer(problem: &Problem, set: &MemberSet, point: &Point) -> u128
-    requires point { IsCostPoint (length problem.now.low) point.now }
-    requires set { IsMemberSet problem.now set.now.members }
-    ensures { result ≡ dearer_from problem.now point.now set.now.members }
-{
-    keeps_conditions(problem);
-    path_cost(&problem.graph, &request_in(problem, set).path, point) + point.scale
 }
 
 /// Whether the members of a set cost the same at a point.
 fn cost_the_same(problem: &Problem, members: &[u32], point: &Point) -> bool
     requires point { IsCostPoint (length problem.now.low) point.now }
     requires some { 0 < length members.now }
-    requires members { All (λ path. path < length problem.now.paths) members.now }
+    requires members { All (λ path. path < length problem.now.requests) members.now }
     ensures { MatchBool result (AreTied problem.now point.now members.now)
         (AreTied problem.now point.now members.now → ⊥) }
 {
@@ -167,7 +138,9 @@ impl SetAsker {
         let room = Room::new(alloc, &problem.graph)?;
         let places = most_places(sets);
         let costs = vec![in alloc; 0; places]?;
-        let order = by_end(alloc, problem, sets)?;
+        let order = sorted_numbers(alloc, sets.len(), |number| {
+            target_of(request_if_any(problem, sets.get(*number)))
+        })?;
         Ok(SetAsker { room, costs, order })
     }
 
@@ -195,106 +168,60 @@ impl SetAsker {
         set_of_number(sets, self.number_at(place))
     }
 
-    /// Up to which limit distances serve the set at a place of the order, and those behind it that share them: each of
-    /// their outsiders that is too cheap costs less.
-    fn limit_at(&self, survey: &SetSurvey<'_>, place: usize) -> u128
-        requires asker { IsAskerOfSets survey.now.problem.now survey.now.sets.now self.now }
-        requires point { IsCostPoint (length survey.now.problem.now.low) survey.now.point.now }
-        requires place { place < length self.now.order }
-        ensures { dearer_from survey.now.problem.now survey.now.point.now
-            (members_seen survey.now self.now place) ≤ result }
-    {
-        let problem = survey.problem;
-        let first = self.set_at(survey.sets, place);
-        let mut limit = least_dearer(problem, first, survey.point);
-        for later in place..self.places() {
-            let other = self.set_at(survey.sets, later);
-            if !have_one_end(problem, first, other) {
-                return limit;
-            }
-            limit = limit.max(least_dearer(problem, other, survey.point));
-        }
-        limit
-    }
-
-    /// Looks for the distances that serve the set at a place of the order, and those behind it that share them.
-    fn look(&mut self, survey: &SetSurvey<'_>, place: usize) -> Reach
+    /// The request of the first member of the set at a place of the order, as a part of a survey.
+    fn outlook_at<'a>(&self, survey: &SetSurvey<'a>, place: usize) -> Outlook<'a>
         // The asker is one for these sets, the point is one of costs, and the order has the place.
-        requires asker { IsAskerOfSets survey.now.problem.now survey.now.sets.now self.old }
-        requires point { IsCostPoint (length survey.now.problem.now.low) survey.now.point.now }
-        requires place { place < length self.old.order }
-
-        // Only the room changes, and the asker is still one for these sets.
-        ensures asker { IsAskerOfSets survey.now.problem.now survey.now.sets.now self.new }
-        ensures same { self.new ≡ record self.old { room = self.new.room } }
-
-        // The room has the distances up to what the set's outsiders are compared with.
-        ensures ready { IsReadyForSet survey.now self.new.room (slice_index self.old.order place)
-            result }
-    {
-        let problem = survey.problem;
-        keeps_conditions(problem);
-        let limit = self.limit_at(survey, place);
-        let number = self.number_at(place);
-        let outlook = Outlook {
-            graph: &problem.graph,
-            request: request_in(problem, set_of_number(survey.sets, number)),
-            point: survey.point,
-        };
-        find_distances(&outlook, limit, &mut self.room);
-        Reach { set: number, limit }
-    }
-
-    /// Whether what the room has serves the set at a place of the order.
-    fn serves(&self, survey: &SetSurvey<'_>, place: usize, reach: Reach) -> bool
         requires asker { IsAskerOfSets survey.now.problem.now survey.now.sets.now self.now }
         requires point { IsCostPoint (length survey.now.problem.now.low) survey.now.point.now }
         requires place { place < length self.now.order }
-        requires reach { ReachesSet survey.now self.now.room reach }
-        ensures { IsTrue result → IsReadyForSet survey.now self.now.room
-            (slice_index self.now.order place)
-            (record { set = slice_index self.now.order place; limit = reach.limit }) }
+
+        // It has the problem's graph, the point, and the request that the set's outsiders are of.
+        ensures graph { result.graph.now ≡ survey.now.problem.now.graph }
+        ensures request { result.request.now ≡ first_request survey.now.problem.now
+            (members_seen survey.now self.now place) }
+        ensures point { result.point.now ≡ survey.now.point.now }
+
+        // The request's path is a simple path of it, and the point is one for the graph.
+        ensures fits { FitsOutlook result }
+        ensures path { HasItsPath result }
     {
-        let set = self.set_at(survey.sets, place);
-        if !have_one_end(survey.problem, set_of_number(survey.sets, reach.set), set) {
-            return false;
-        }
-        least_dearer(survey.problem, set, survey.point) <= reach.limit
+        outlook_of(survey, self.number_at(place))
     }
 
     /// Sees to it that the room has the distances that serve the set at a place of the order. It keeps those that it
     /// has where they serve that one too.
-    fn prepare(&mut self, survey: &SetSurvey<'_>, place: usize, reach: Option<Reach>) -> Reach
+    fn prepare<'a>(
+        &mut self,
+        survey: &SetSurvey<'a>,
+        place: usize,
+        shared: Option<Shared<'a>>,
+    ) -> Shared<'a>
         // The asker is one for these sets, the point is one of costs, and the order has the place.
         requires asker { IsAskerOfSets survey.now.problem.now survey.now.sets.now self.old }
         requires point { IsCostPoint (length survey.now.problem.now.low) survey.now.point.now }
         requires place { place < length self.old.order }
 
-        // What is known of the room, if anything, is that its distances serve some set.
-        requires reach { MayReach survey.now self.old.room reach }
+        // If it is told which distances the room has, it has them.
+        requires shared { MayShare survey.now.problem.now.graph survey.now.point.now self.old.room
+            shared }
 
         // Only the room changes, and the asker is still one for these sets.
         ensures asker { IsAskerOfSets survey.now.problem.now survey.now.sets.now self.new }
         ensures same { self.new ≡ record self.old { room = self.new.room } }
 
         // The room has the distances up to what the set's outsiders are compared with.
-        ensures ready { IsReadyForSet survey.now self.new.room (slice_index self.old.order place)
-            result }
+        ensures ready { IsReadyToCompare survey.now.problem.now.graph survey.now.point.now
+            (first_request survey.now.problem.now (members_seen survey.now self.old place))
+            self.new.room result }
     {
-        if let Some(reach) = reach {
-            if self.serves(survey, place, reach) {
-                return Reach {
-                    set: self.number_at(place),
-                    limit: reach.limit,
-                };
-            }
-        }
-        self.look(survey, place)
+        let order = self.order.as_slice();
+        let outlook_at = |later: usize| outlook_of(survey, order[later]);
+        prepare(outlook_at, place..order.len(), shared, &mut self.room)
     }
 
-    /// Whether the set at a place of the order, whose members tie, has an outsider that costs less than they and the
-    /// scale; the room has the distances that serve it.
-    fn is_undercut_at(&mut self, survey: &SetSurvey<'_>, place: usize) -> bool
+    /// Whether the members of the set at a place of the order, which tie, lead by the scale: each outsider costs at
+    /// least what they and the scale do. The room has the distances that serve the set.
+    fn leads_at(&mut self, survey: &SetSurvey<'_>, place: usize) -> bool
         // The asker is one for these sets, the point is one of costs, and the order has the place.
         requires asker { IsAskerOfSets survey.now.problem.now survey.now.sets.now self.old }
         requires point { IsCostPoint (length survey.now.problem.now.low) survey.now.point.now }
@@ -303,26 +230,22 @@ impl SetAsker {
         // The members tie, and the room has the distances up to what outsiders are compared with.
         requires tied { AreTied survey.now.problem.now survey.now.point.now
             (members_seen survey.now self.old place) }
-        requires found { CanCompareSet survey.now (members_seen survey.now self.old place)
+        requires found { CanCompareWith survey.now.problem.now.graph survey.now.point.now
+            (first_request survey.now.problem.now (members_seen survey.now self.old place))
             self.old.room }
 
-        // The asker is as before, and on false every outsider costs at least the scale more.
+        // Nothing changes, and it tells whether each outsider costs at least the scale more.
         ensures same { self.new ≡ self.old }
-        ensures answer { MatchBool result (OutsidersAreDearer survey.now.problem.now
-            survey.now.point.now (members_seen survey.now self.old place) → ⊥)
-            (OutsidersAreDearer survey.now.problem.now survey.now.point.now
-            (members_seen survey.now self.old place)) }
+        ensures answer { MatchBool result
+            (AreOutsidersDear survey.now.problem.now survey.now.point.now
+            (members_seen survey.now self.old place))
+            (AreOutsidersDear survey.now.problem.now survey.now.point.now
+            (members_seen survey.now self.old place) → ⊥) }
     {
-        let problem = survey.problem;
-        keeps_conditions(problem);
+        keeps_problem_on_graph(survey.problem);
+        let outlook = self.outlook_at(survey, place);
         let set = self.set_at(survey.sets, place);
-        let request = request_in(problem, set);
-        let outlook = Outlook {
-            graph: &problem.graph,
-            request,
-            point: survey.point,
-        };
-        is_undercut(&outlook, &set.tree, self.costs.as_mut_slice(), &self.room)
+        paths_lead(&outlook, &set.tree, self.costs.as_mut_slice(), &self.room)
     }
 
     /// The cheapest outsider of the set at a place of the order, whose members tie, None where each costs at least what
@@ -341,10 +264,11 @@ impl SetAsker {
         // The members tie, and the room has the distances up to what outsiders are compared with.
         requires tied { AreTied survey.now.problem.now survey.now.point.now
             (members_seen survey.now self.old place) }
-        requires found { CanCompareSet survey.now (members_seen survey.now self.old place)
+        requires found { CanCompareWith survey.now.problem.now.graph survey.now.point.now
+            (first_request survey.now.problem.now (members_seen survey.now self.old place))
             self.old.room }
 
-        // Only the room's path changes, and after None each outsider costs at least the scale more.
+        // Only the room's path changes, and after None the members share.
         ensures same { self.new ≡ record self.old {
           room = record self.old.room
               { path = self.new.room.path };
@@ -352,15 +276,9 @@ impl SetAsker {
         ensures outsider { IfOk result (IsOutsiderIfAny survey.now.problem.now survey.now.point.now
             (members_seen survey.now self.old place)) }
     {
-        let problem = survey.problem;
-        keeps_conditions(problem);
+        keeps_problem_on_graph(survey.problem);
+        let outlook = self.outlook_at(survey, place);
         let set = self.set_at(survey.sets, place);
-        let request = request_in(problem, set);
-        let outlook = Outlook {
-            graph: &problem.graph,
-            request,
-            point: survey.point,
-        };
         let costs = self.costs.as_mut_slice();
         if !find_outsider_at_hand(&outlook, &set.tree, costs, &mut self.room) {
             return Ok(None);
@@ -388,17 +306,17 @@ impl SetAsker {
             sets,
             point,
         };
-        let mut reach = None;
+        let mut shared = None;
         for place in 0..self.places() {
             let set = self.set_at(sets, place);
             if !cost_the_same(problem, set.members.as_slice(), point) {
                 return false;
             }
-            let ready = self.prepare(&survey, place, reach);
-            if self.is_undercut_at(&survey, place) {
+            let ready = self.prepare(&survey, place, shared);
+            if !self.leads_at(&survey, place) {
                 return false;
             }
-            reach = Some(ready);
+            shared = Some(ready);
         }
         true
     }
@@ -422,7 +340,7 @@ impl SetAsker {
         requires tied { All (λ set. AreTied problem.now point.now set.members) sets.now }
         ensures asker { IsAskerOfSets problem.now sets.now self.new }
         ensures outsiders { IfOk result (λ outsiders. AreOutsidersIfAny problem.now point.now
-            sets.now outsiders.items) }
+            (sets_in sets.now) outsiders.items) }
     {
         let survey = SetSurvey {
             problem,
@@ -430,12 +348,12 @@ impl SetAsker {
             point,
         };
         let mut outsiders = nothing_told(alloc, sets.len())?;
-        let mut reach = None;
+        let mut shared = None;
         for place in 0..self.places() {
-            let ready = self.prepare(&survey, place, reach);
+            let ready = self.prepare(&survey, place, shared);
             let outsider = self.outsider_at(alloc, &survey, place)?;
             tell(&mut outsiders, self.number_at(place), outsider);
-            reach = Some(ready);
+            shared = Some(ready);
         }
         Ok(outsiders)
     }

@@ -1,14 +1,15 @@
-//! The rivals and the ties of a problem's sets, as the source of a search.
+//! The outsiders and the ties of a problem's sets, as the source of a search.
 ghost use Rattle.std.specs.Prelude.{◌≡◌, ◌<◌, ◌++◌, ◌∷◌, [], ◌↔◌, length, slice_index, All, IfOk, IsTrue, OnErr, OnOk};
 ghost use Rattle.area_graph.specs.declared.Point.{Point};
 ghost use Rattle.design_problem.specs.Forms.{AreMet};
 ghost use Rattle.form_search.specs.Sources.{Grows, IsCostPoint};
 ghost use Rattle.spread_sets.specs.declared.spread.SetRow.TheVariants.{Same};
 ghost use Rattle.spread_sets.specs.Spreads.{AreTied, SharesEach, name_of_set, form_of_set_row, forms_of_set_rows};
-ghost use Rattle.cost_branching.specs.Rivals.{IsProblemOnGraph};
+ghost use Rattle.design_problem.specs.Problems.{IsProblemOnGraph};
 ghost use Rattle.spread_sets.specs.MemberSets.{AreMemberSets, HasTree, sets_in};
 ghost use Rattle.spread_sets.specs.Sources.{IsOutsiderTooCheap, IsPoolOfSets, IsTrueOfSets, both_ways, set_at, tie_rows, ties_in};
-ghost use Rattle.spread_sets.specs.Asking.{AreAllSetsAsked, AreSetAnswers, IsPairIn, IsSetAnswer, IsSetAsked, OneSetRow};
+ghost use Rattle.spread_sets.specs.Asking.{AreAllSetsAsked, IsPairIn, IsSetAsked, OneSetRow};
+ghost use Rattle.spread_sets.specs.SetAskers.{AreOutsidersIfAny, IsOutsiderIfAny};
 
 use crate::member_sets::{MemberSet, first_of};
 use crate::row_forms::form_of_tie;
@@ -16,9 +17,9 @@ use crate::set_asker::SetAsker;
 use crate::spread::SetRow;
 use area_graph::Point;
 use cost_base::{Listed, OutOfMemory};
-use cost_branching::{keeps_conditions, row_of, variable_count};
-use design_problem::{Form, Problem, form_of};
-use form_search::{Asked, FormPool, RowSource};
+use cost_branching::{row_of, variable_count};
+use design_problem::{Form, Problem, form_of, keeps_problem_on_graph};
+use form_search::{Asked, FormPool, FormSource};
 use std::alloc::Global;
 use std::marker::{Brand, Model, PhantomData};
 
@@ -132,7 +133,7 @@ impl<'a, B: Begun> Spreads<'a, B> {
         ensures kept { IsProblemOnGraph self.now.problem }
         ensures sets { AreMemberSets self.now.problem self.now.sets }
     {
-        keeps_conditions(self.problem);
+        keeps_problem_on_graph(self.problem);
     }
 
     /// How many sets there are.
@@ -273,7 +274,7 @@ impl<'a, B: Begun> Spreads<'a, B> {
     }
 
     /// Puts the row of an outsider of the set at a place that is too cheap at some point.
-    fn push_rival(
+    fn push_outsider(
         &mut self,
         alloc: Global,
         place: usize,
@@ -293,7 +294,7 @@ impl<'a, B: Begun> Spreads<'a, B> {
         let name = self.name(place);
         let row = row_of(alloc, name, edges)?;
         let form = form_of(alloc, self.problem, &row)?;
-        self.push_row(SetRow::Rival(row.request, row.rival), form, pool)?;
+        self.push_row(SetRow::Outsider(row.request, row.rival), form, pool)?;
         Ok(())
     }
 
@@ -306,17 +307,17 @@ impl<'a, B: Begun> Spreads<'a, B> {
         pool: &mut FormPool,
     ) -> Result<bool, OutOfMemory>
         requires place { place < length self.old.sets }
-        requires told { (point : Point) × IsSetAnswer self.old.problem point
+        requires told { (point : Point) × IsOutsiderIfAny self.old.problem point
             (set_at self.old.sets place) outsider.now }
         ensures one { IfOk result (λ added. (point : Point) →
-            IsSetAnswer self.old.problem point (set_at self.old.sets place) outsider.now →
+            IsOutsiderIfAny self.old.problem point (set_at self.old.sets place) outsider.now →
             IsSetAsked point place self.old pool.old self.new pool.new added) }
         ensures same_rows { OnErr result (self.new ≡ self.old) }
         ensures same_forms { OnErr result (pool.new ≡ pool.old) }
     {
         match outsider {
             Some(edges) => {
-                self.push_rival(alloc, place, edges.as_slice(), pool)?;
+                self.push_outsider(alloc, place, edges.as_slice(), pool)?;
                 Ok(true)
             }
             None => Ok(false),
@@ -332,14 +333,14 @@ impl<'a, B: Begun> Spreads<'a, B> {
         requires point { IsCostPoint (length self.old.problem.low) point.now }
         requires tied { All (AreTied self.old.problem point.now) self.old.sets }
         ensures same { self.new ≡ self.old }
-        ensures told { IfOk result (λ outsiders. AreSetAnswers self.old.problem point.now
+        ensures told { IfOk result (λ outsiders. AreOutsidersIfAny self.old.problem point.now
             self.old.sets outsiders.items) }
     {
         self.asker
             .cheap_outsiders(alloc, self.problem, &self.sets, point)
     }
 
-    /// Asks each set in order for its cheapest rival. Each that costs less than the members and the scale becomes a
+    /// Asks each set in order for its cheapest outsider. Each that costs less than the members and the scale becomes a
     /// row. Sets whose requests have one end and exclude the same edges share the distances by which it is found.
     fn ask_each(
         &mut self,
@@ -382,10 +383,10 @@ impl<'a, B: Begun> Spreads<'a, B> {
     }
 }
 
-impl<'a, B: Begun> RowSource for Spreads<'a, B> {
+impl<'a, B: Begun> FormSource for Spreads<'a, B> {
     ghost use Rattle.std.specs.Prelude.{length};
     ghost use Rattle.spread_sets.specs.Spreads.{SharesEach};
-    ghost use Rattle.spread_sets.specs.Sources.{IsPoolOfSets, IsTrueOfSets, candidates_of};
+    ghost use Rattle.spread_sets.specs.Sources.{IsPoolOfSets, IsTrueOfSets, possible_forms_of};
     ghost use Rattle.spread_sets.specs.SourceLaws.{set_scale_is_free, set_forms_hold, set_forms_listed};
 
     ghost count = { λ s. length s.problem.low };
@@ -396,7 +397,7 @@ impl<'a, B: Begun> RowSource for Spreads<'a, B> {
 
     ghost in_step = { λ s forms. IsPoolOfSets s forms };
 
-    ghost candidates = { λ s. candidates_of s.problem };
+    ghost possible_forms = { λ s. possible_forms_of s.problem };
 
     fn variables(&self) -> u32 {
         variable_count(self.problem)

@@ -5,9 +5,9 @@ use design_problem::{CostList, Tree};
 /// A row of a set, which is named by the least number in it.
 #[derive(Drop)]
 pub enum SetRow {
-    /// A rival of a set: a simple path of the request that is no member. Its form is cost(rival) - cost(first member) -
-    /// 1. The rival is its edges, in their order; they start where the request's path starts.
-    Rival(u32, Listed<u32>),
+    /// An outsider of a set: a simple path of the request that is no member. Its form is cost(outsider) - cost(first
+    /// member) - 1. It is told as its edges, in their order; they start where the request's path starts.
+    Outsider(u32, Listed<u32>),
     /// Two members of a set, I and J. Its form is cost(J) - cost(I).
     Same(u32, u32, u32),
 }
@@ -29,7 +29,7 @@ pub enum Spread {
     Undecided {
         /// The rows that the tree uses.
         rows: Vec<SetRow>,
-        /// The unfinished tree over the box at the greatest bound.
+        /// The undecided tree over the box at the greatest bound.
         tree: Tree,
     },
 }

@@ -12,7 +12,7 @@ use Rattle.whole_numbers.proofs.Ring.{var, num, ◌⊕◌, ◌⊗◌, ring}
 use Rattle.whole_numbers.proofs.FractionLaws.{cancel}
 use Rattle.whole_numbers.specs.Lists.{number_at}
 use Rattle.design_problem.specs.declared.form.Form.{Form}
-use Rattle.design_problem.specs.declared.form.CostBox.{CostBox}
+use Rattle.design_problem.specs.declared.boxes.CostBox.{CostBox}
 use Rattle.design_problem.specs.declared.tree.Member.{Member}
 use Rattle.design_problem.specs.declared.tree.Member.TheVariants.{Low}
 use Rattle.design_problem.specs.Basis.{LeadsPositive, coordinate, forms_of, mixture, one_form}
@@ -95,7 +95,8 @@ pub number_up : (D g : ℕ) (low : List ℕ) (lows : List (List ℤ)) (f : Form)
     number_of_form (D * g) low (map (scaled_by g) lows) f place ≡ (number_of_form D low lows f place *ℤ pos g)
 number_up D g low lows f zero =
     ap (λ z. (pos (D * g) *ℤ value_for_costs f low) +ℤ z) (lows_up g f.coefficients lows 0)
-    ∙ ring (pos D ∷ pos g ∷ value_for_costs f low ∷ from_lows f.coefficients lows 0 ∷ []) ((var 0 ⊗ var 1) ⊗ var 2 ⊕ var 3 ⊗ var 1) ((var 0 ⊗ var 2 ⊕ var 3) ⊗ var 1) refl
+    ∙ ring (pos D ∷ pos g ∷ value_for_costs f low ∷ from_lows f.coefficients lows 0 ∷ []) ((var 0 ⊗ var 1) ⊗ var 2 ⊕ var 3 ⊗ var 1)
+    ((var 0 ⊗ var 2 ⊕ var 3) ⊗ var 1) refl
 number_up D g low lows f (suc k) = lows_up g f.coefficients lows (suc k)
 
 mixture_up : (g : ℕ) (ms : List ℤ) (fs : List Form) (i : ℕ) → mixture (scaled_by g ms) fs i ≡ (mixture ms fs i *ℤ pos g)
@@ -121,7 +122,7 @@ not_negative : (m : ℕ) (zs : List ℤ) → 0 < m → LeadsPositive (neg_ℤ (p
 not_negative zero zs m_positive leads = absurd (omega arith)
 not_negative (suc m) zs m_positive leads = leads
 
-lead_less : (g : ℕ) (z : ℤ) (zs ms : List ℤ) → 0 < g → (LeadsPositive zs → LeadsPositive ms) → LeadsPositive ((z *ℤ pos g) ∷ zs) → LeadsPositive (z ∷ ms)
+pub lead_less : (g : ℕ) (z : ℤ) (zs ms : List ℤ) → 0 < g → (LeadsPositive zs → LeadsPositive ms) → LeadsPositive ((z *ℤ pos g) ∷ zs) → LeadsPositive (z ∷ ms)
 lead_less (suc g) (pos zero) zs ms g_positive rest leads =
     rest (subst (λ (m : ℕ). LeadsPositive (pos m ∷ zs)) (zero-mul (suc g)) leads)
 lead_less (suc g) (pos (suc n)) zs ms g_positive rest leads = tt
@@ -241,7 +242,7 @@ ConstantsAre k = AreConstants k.table.costs k.table.rows.items (nat_abs k.common
 -- the basis of a kernel, and a kernel of a basis
 pub kernel_basis : (k : Kernel) → IsKernel k → AreAtBasis k.table.costs k.table.rows.items k.table.basis.items (nat_abs k.common) (lows_of k) × ConstantsAre k
 kernel_basis k m =
-    let u = m.whole.unboxed in
+    let u = m.tableau.unboxed in
     let common : u.common ≡ nat_abs k.common = ap nat_abs m.numbers.common in
     let a = at_basis k.table.top k.table.costs k.table.rows.items k.table.basis.items (stated k).lines.items u in
     let b = subst (λ (D : ℕ). AreAtBasis k.table.costs k.table.rows.items k.table.basis.items D u.lows) common a in (
@@ -305,7 +306,7 @@ basis_kernel k s b box fit a c =
     record {
       shaped = s;
       bounded = b;
-      whole = record {
+      tableau = record {
         box = box;
         fit = fit;
         unboxed = unboxed_of k.table.top D k.table.costs k.table.rows.items k.table.basis.items (lows_of k) (stated k).lines.items a lines;

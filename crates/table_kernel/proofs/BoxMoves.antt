@@ -3,7 +3,7 @@ use Rattle.std.proofs.Common.{◌≡◌, ℕ, suc, ◌+◌, ◌<◌, sym, ◌∙
 use Rattle.std.specs.Prelude.{pos, ◌-ℤ◌, nat_abs, slice_index, All}
 use Rattle.std.proofs.lemmas.Int.{ints}
 use Rattle.design_problem.specs.declared.form.Form.{Form}
-use Rattle.design_problem.specs.declared.form.CostBox.{CostBox}
+use Rattle.design_problem.specs.declared.boxes.CostBox.{CostBox}
 use Rattle.design_problem.specs.Boxes.{IsBox}
 use Rattle.fraction_table.specs.Tableaus.{FitsBox, between}
 use Rattle.fraction_table.proofs.BetweenBoxes.{AreAlike, at_between}

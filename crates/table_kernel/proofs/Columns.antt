@@ -76,7 +76,8 @@ at_place_at : (k : Kernel) → IsShaped k → (place v : ℕ) → v < width_of k
 at_place_at k s place v v_in =
     let lows_long : length (lows_of k) ≡ length k.lows.items = length-map k.lows.items (scaled_line (nat_abs k.common)) in
     get_or-map (λ (ts : List ℤ). number_at ts place) (lows_of k) v (scaled_line (nat_abs k.common) no_line) (pos 0) (omega (arith, s.lows, v_in, lows_long))
-    ∙ ap (λ (ts : List ℤ). number_at ts place) (get_or-map (scaled_line (nat_abs k.common)) k.lows.items v no_line (scaled_line (nat_abs k.common) no_line) (omega (arith, s.lows, v_in)))
+    ∙ ap (λ (ts : List ℤ). number_at ts place) (get_or-map (scaled_line (nat_abs k.common)) k.lows.items v no_line (scaled_line (nat_abs k.common) no_line)
+    (omega (arith, s.lows, v_in)))
     ∙ scaled_number (nat_abs k.common) (line_of k v) place
 
 -- a variable's number at a column

@@ -80,7 +80,8 @@ pub common_step : (entering : Line) (column : ℕ) (lines : List Line) (i common
     ≡ common_after entering column (drop (i + 1) lines) (lcm common (denominator_after entering column (slice_index_or lines i no_line)))
 common_step entering column lines i common i_in =
     let next : suc i ≡ i + 1 = omega arith in
-    subst (λ (n : ℕ). common_after entering column (drop i lines) common ≡ common_after entering column (drop n lines) (lcm common (denominator_after entering column (slice_index_or lines i no_line))))
+    subst (λ (n : ℕ). common_after entering column (drop i lines) common ≡
+    common_after entering column (drop n lines) (lcm common (denominator_after entering column (slice_index_or lines i no_line))))
     next (step_at entering column lines i common i_in)
 
 -- a common multiple that is too large on the way is so at the end

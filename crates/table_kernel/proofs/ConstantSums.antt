@@ -68,8 +68,10 @@ read_sum a b x y a_is b_is a_small b_small =
     ∙ ap (λ (z : ℤ). x +ℤ z) b_is
 
 -- the constant of high - x, as code reads it
-module _ (common range constant : ℤ) (common_small : nat_abs common ≤ 2 ^ 30) (range_small : nat_abs range ≤ 2 ^ 27) (constant_small : nat_abs constant ≤ 2 ^ 44) where
-  difference_is : (to_z w64 (of_z w64 (to_z w64 (of_z w64 common) *ℤ to_z w64 (of_z w64 range))) -ℤ to_z w64 (of_z w64 constant)) ≡ ((common *ℤ range) -ℤ constant)
+module _ (common range constant : ℤ) (common_small : nat_abs common ≤ 2 ^ 30) (range_small : nat_abs range ≤ 2 ^ 27)
+    (constant_small : nat_abs constant ≤ 2 ^ 44) where
+  difference_is : (to_z w64 (of_z w64 (to_z w64 (of_z w64 common) *ℤ to_z w64 (of_z w64 range))) -ℤ to_z w64 (of_z w64 constant)) ≡
+      ((common *ℤ range) -ℤ constant)
   difference_is =
       ap (λ (z : ℤ). z -ℤ to_z w64 (of_z w64 constant))
       (read_product common range (2 ^ 30) (2 ^ 27) common_small range_small (omega arith) (omega arith) (omega arith))

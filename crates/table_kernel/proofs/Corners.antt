@@ -16,7 +16,7 @@ use Rattle.design_problem.specs.declared.tree.Member.TheVariants.{Low}
 use Rattle.design_problem.specs.Basis.{entry, member_form}
 use Rattle.design_problem.specs.Earnest.{IsLeastPoint}
 use Rattle.design_problem.specs.Forms.{AreMet}
-use Rattle.fraction_rows.proofs.RowLaws.{number_at as number_there}
+use Rattle.fraction_lines.proofs.TableLineLaws.{number_at as number_there}
 use Rattle.fraction_table.specs.Pivots.{AreHigh, line_at, numbers_of_line, member_at}
 use Rattle.fraction_table.proofs.Bases.{members_begin}
 use Rattle.fraction_table.proofs.CornerLeast.{corner_is_least}
@@ -123,7 +123,7 @@ high_at : (k : Kernel) (m : IsKernel k) → All (λ z. pos 0 ≤ℤ z) k.constan
     line < length (stated k).lines.items → pos 0 ≤ℤ (entry (line_at (stated k) line) 0).numerator
 high_at k m high line line_in =
     let t = stated k in
-    let w = m.whole in
+    let w = m.tableau in
     let n = width_of k in
     let f = member_form n k.table.rows.items (member_at t line) in
     let l = whole_line t w line line_in in
@@ -168,7 +168,7 @@ pub corner_least : (k : Kernel) (m : IsKernel k) → All (λ z. pos 0 ≤ℤ z) 
     IsLeastPoint (AreMet k.table.rows.items) k.table.costs p
 corner_least k m high divisor p d scale_is counted values =
     let t = stated k in
-    let w = m.whole in
+    let w = m.tableau in
     let q = corner_point t w in
     let common : w.unboxed.common ≡ nat_abs k.common = ap nat_abs m.numbers.common in
     let long : length q.values ≡ width_of k = corner_long w.unboxed.common t.costs.low w.unboxed.lows (counted_lows t w) in
@@ -178,24 +178,24 @@ corner_least k m high divisor p d scale_is counted values =
     (corner_is_least t w (stated_high k m high))
   where
     here : (v : ℕ) → v < width_of k →
-        slice_index p.values v * m.whole.unboxed.common
-        ≡ slice_index (corner_of m.whole.unboxed.common k.table.costs.low m.whole.unboxed.lows) v * p.scale
+        slice_index p.values v * m.tableau.unboxed.common
+        ≡ slice_index (corner_of m.tableau.unboxed.common k.table.costs.low m.tableau.unboxed.lows) v * p.scale
     here v v_in =
         let D = nat_abs k.common in
         let low = slice_index k.table.costs.low v in
         let z = number_at k.constants.items v in
-        let common : m.whole.unboxed.common ≡ D = ap nat_abs m.numbers.common in
-        let number : number_at (slice_index_or m.whole.unboxed.lows v []) 0 ≡ z =
+        let common : m.tableau.unboxed.common ≡ D = ap nat_abs m.numbers.common in
+        let number : number_at (slice_index_or m.tableau.unboxed.lows v []) 0 ≡ z =
         ap (λ (rows : List (List ℤ)). number_at (slice_index_or rows v []) 0) m.numbers.lows
         ∙ sym (get_or-map (λ (ts : List ℤ). number_at ts 0) (lows_of k) v [] (pos 0)
         (omega (arith, v_in, m.shaped.lows, length-map k.lows.items (scaled_line D))))
         ∙ sym (low_constant_is k m v v_in) in
-        let there : slice_index (corner_of m.whole.unboxed.common k.table.costs.low m.whole.unboxed.lows) v ≡ low * D + nat_abs z =
-        corner_at m.whole.unboxed.common k.table.costs.low m.whole.unboxed.lows v v_in (counted_lows (stated k) m.whole)
-        ∙ ap (λ (x : ℕ). low * x + nat_abs (number_at (slice_index_or m.whole.unboxed.lows v []) 0)) common
+        let there : slice_index (corner_of m.tableau.unboxed.common k.table.costs.low m.tableau.unboxed.lows) v ≡ low * D + nat_abs z =
+        corner_at m.tableau.unboxed.common k.table.costs.low m.tableau.unboxed.lows v v_in (counted_lows (stated k) m.tableau)
+        ∙ ap (λ (x : ℕ). low * x + nat_abs (number_at (slice_index_or m.tableau.unboxed.lows v []) 0)) common
         ∙ ap (λ (y : ℤ). low * D + nat_abs y) number in
         ap (λ (x : ℕ). slice_index p.values v * x) common
         ∙ ap (λ (x : ℕ). x * D) (values v v_in ∙ ap (λ (s : ℕ). value_over k divisor s v) scale_is)
         ∙ over_same low D (nat_abs z) divisor d.positive d.whole (d.parts v v_in)
         ∙ ap (λ (x : ℕ). x * (D / divisor)) (sym there)
-        ∙ ap (λ (s : ℕ). slice_index (corner_of m.whole.unboxed.common k.table.costs.low m.whole.unboxed.lows) v * s) (sym scale_is)
+        ∙ ap (λ (s : ℕ). slice_index (corner_of m.tableau.unboxed.common k.table.costs.low m.tableau.unboxed.lows) v * s) (sym scale_is)

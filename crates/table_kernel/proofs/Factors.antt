@@ -15,7 +15,7 @@ use Rattle.integer_pivots.specs.declared.line.Line.{Line}
 use Rattle.integer_pivots.specs.Lines.{no_line}
 use Rattle.integer_pivots.specs.Numbers.{AllWithin, more_sums, product_sum}
 use Rattle.integer_pivots.proofs.PartSums.{more_at, more_long}
-use Rattle.whole_numbers.proofs.Sizes.{negated_size}
+use Rattle.whole_numbers.proofs.Sizes.{negated_size, product_size}
 use Rattle.integer_pivots.proofs.Sizes.{number_within, read, read_number}
 use Rattle.table_kernel.specs.Lines.{factors_of}
 use Rattle.table_kernel.specs.Numbers.{scaled_line, share_of}
@@ -192,10 +192,6 @@ put_room D lines ts index d sums index_in put c e c_in =
     (get_or_default sums c (pos 0) e c_in)
     (part_room (product_at (scaled_column D lines c)) (multiple_room D lines) (2 ^ 62) ts index d (number_at sums c) index_in (put c c_in))
 
--- a coefficient's product with the share is its factor
-factor_size : (c : ℤ) (n : ℕ) → nat_abs (c *ℤ pos n) ≡ nat_abs c * n
-factor_size c n = unsigned_abs-mul c (pos n)
-
 pub put_more : (D : ℕ) (lines : List Line) (ts : List Term) (index : ℕ) (d : Term) (sums news : List ℤ) (line : Line) (f : ℤ) →
     index < length ts → (get_or ts index d).var < length lines →
     line ≡ slice_index_or lines (get_or ts index d).var no_line → AllWithin (2 ^ 30) line.numbers →
@@ -221,7 +217,7 @@ put_more D lines ts index d sums news line f index_in var_in line_is small long 
     let size : nat_abs (f *ℤ z) ≤ nat_abs f * 2 ^ 30 =
     omega (arith, unsigned_abs-mul f z, mul-le-mul_left (nat_abs f) (number_within (2 ^ 30) line.numbers c small)) in
     let f_size : nat_abs f ≡ factor_of D lines t =
-    ap nat_abs f_is ∙ factor_size t.coefficient share ∙ ap (λ (l : Line). nat_abs t.coefficient * share_of D l) line_is in
+    ap nat_abs f_is ∙ product_size t.coefficient share ∙ ap (λ (l : Line). nat_abs t.coefficient * share_of D l) line_is in
     let within : nat_abs (t.coefficient *ℤ number_at zs t.var) ≤ multiple_room D lines t =
     subst (λ (n : ℕ). nat_abs (t.coefficient *ℤ number_at zs t.var) ≤ n * 2 ^ 30) f_size
     (subst (λ (y : ℤ). nat_abs y ≤ nat_abs f * 2 ^ 30) product size) in
@@ -257,9 +253,9 @@ factor_read D lines t line share small some line_is share_is light =
     let c = t.coefficient in
     let n = share_of D line in
     let size : nat_abs (c *ℤ pos n) ≡ factor_of D lines t =
-    factor_size c n ∙ ap (λ (l : Line). nat_abs c * share_of D l) line_is in
+    product_size c n ∙ ap (λ (l : Line). nat_abs c * share_of D l) line_is in
     let least : nat_abs c * 1 ≤ nat_abs c * n = mul-le-mul_left (nat_abs c) some in
-    let c_small : nat_abs c ≤ 2 ^ 32 = omega (arith, least, factor_size c n, size, light) in
+    let c_small : nat_abs c ≤ 2 ^ 32 = omega (arith, least, product_size c n, size, light) in
     let n_small = share_small D line small in
     let product : (read c *ℤ read share) ≡ (c *ℤ pos n) =
     ap (λ (z : ℤ). z *ℤ read share) (read_number c (omega (arith, c_small)))

@@ -59,7 +59,7 @@ module _ (k : Kernel) (m : IsKernel k) where
       let f = slice_index_or k.table.rows.items row no_form in
       let value = value_for_costs f k.table.costs.low in
       let D = nat_abs k.common in
-      let few = (m.whole.fit row no_form row_in).count in
+      let few = (m.tableau.fit row no_form row_in).count in
       (kernel_basis k m).1 (width_of k + width_of k + row) (omega (arith, row_in, many))
       ∙ ap (λ (member : Member). number_of_form D k.table.costs.low (lows_of k) (member_form (width_of k) k.table.rows.items member) 0)
       (row_place k.table.costs (length k.table.rows.items) row (Low 0 0) row_in)

@@ -9,7 +9,7 @@ use Rattle.whole_numbers.proofs.Sizes.{positive_is}
 use Rattle.whole_numbers.specs.Lists.{number_at}
 use Rattle.design_problem.specs.Forms.{no_form, value_for_costs}
 use Rattle.fraction_table.specs.Tableaus.{FitsBox}
-use Rattle.integer_pivots.specs.declared.turn.Turn.{Turn}
+use Rattle.integer_pivots.specs.declared.turned_line.Turn.{Turn}
 use Rattle.integer_pivots.specs.Numbers.{AllWithin, product_sum}
 use Rattle.integer_pivots.proofs.Sizes.{number_within, read_known}
 use Rattle.table_kernel.specs.declared.kernel.Kernel.{Kernel}

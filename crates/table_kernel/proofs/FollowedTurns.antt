@@ -4,7 +4,7 @@ use Rattle.std.proofs.Common.{Vec, ◌≡◌, ℕ, ◌<◌, sym, ◌∙◌, ap, 
 use Rattle.std.specs.Prelude.{ℤ, pos}
 use Rattle.whole_numbers.specs.Lists.{number_at}
 use Rattle.integer_pivots.specs.declared.line.Line.{Line}
-use Rattle.integer_pivots.specs.declared.turn.Turn.{Turn}
+use Rattle.integer_pivots.specs.declared.turned_line.Turn.{Turn}
 use Rattle.integer_pivots.proofs.Sizes.{read}
 use Rattle.table_kernel.specs.declared.kernel.Kernel.{Kernel}
 use Rattle.table_kernel.specs.Constants.{AreByFirst, AreFirstSmall, constant_of_line, line_constant}

@@ -1,4 +1,4 @@
--- The least common denominator of a row of fractions, place by place.
+-- The least common denominator of a line of fractions, place by place.
 use Prim.Native.Nat.{◌∣◌}
 use native.Mathlib.Nat.{one-dvd}
 use borrow.Author.Count.{below_more}
@@ -12,11 +12,11 @@ use Rattle.integer_pivots.proofs.Sizes.{read, read_number, size_most}
 use Rattle.table_kernel.specs.ReadBack.{AllGoInto, IsLeastDenominator}
 use Rattle.table_kernel.proofs.LeastCommon.{both_go_in}
 
--- the number goes into each common denominator of the row
+-- the number goes into each common denominator of the line
 abbrev pub GoesIntoCommon : List Fraction → ℕ → Type 0
 GoesIntoCommon row part = (D : ℕ) → AllGoInto row D → part ∣ D
 
--- and so does its least common multiple with a denominator of the row
+-- and so does its least common multiple with a denominator of the line
 pub more_goes_in : (row : List Fraction) (place part : ℕ) (q : Fraction) → place < length row → q ≡ entry row place →
     GoesIntoCommon row part → GoesIntoCommon row (lcm part q.denominator)
 more_goes_in row place part q place_in is goes D common =

@@ -1,7 +1,7 @@
 -- The columns that are left, as variable by variable is looked at; and the one that is chosen.
 use native.Mathlib.Nat.{zero-mul}
 use Rattle.std.proofs.Common.{◌≡◌, ℕ, zero, suc, ◌+◌, ◌*◌, ◌^◌, ◌<◌, ◌≤◌, refl, sym, ◌∙◌, ap, subst, List, [], ◌∷◌, map, length, arith, inl, inr, ◌⊎◌}
-use Rattle.std.specs.Prelude.{ℤ, None, Some, pos, negsuc, ◌-ℤ◌, ◌*ℤ◌, ◌<ℤ◌, ◌≤ℤ◌, neg_ℤ, nat_abs, slice_index, slice_index_or, All}
+use Rattle.std.specs.Prelude.{ℤ, None, Some, pos, negsuc, ◌-ℤ◌, ◌*ℤ◌, ◌<ℤ◌, ◌≤ℤ◌, nat_abs, slice_index, slice_index_or, All}
 use Rattle.std.proofs.lemmas.Int.{ints}
 use Rattle.std.proofs.lemmas.List.{get_or-map, get_or_default, length-map}
 use Rattle.std.proofs.lemmas.List.Elements.{All-tail}
@@ -9,6 +9,7 @@ use Rattle.whole_numbers.proofs.Ring.{var, ◌⊖◌, ◌⊗◌, ring}
 use Rattle.std.proofs.lemmas.Bool.{cases_eq}
 use Rattle.cost_base.specs.Lists.{Has}
 use lib.IntN.{zero-*ℤ}
+use Rattle.cost_base.proofs.ListLemmas.{has_at}
 use Rattle.whole_numbers.specs.Lists.{number_at}
 use Rattle.design_problem.specs.Basis.{LeadsPositive}
 use Rattle.fraction_table.specs.Pivots.{LeadsNoNegative, numbers_in_column, turned_column}
@@ -16,7 +17,6 @@ use Rattle.fraction_table.proofs.ColumnOrders.{prefix_leads, zeros_lead, column_
 use Rattle.integer_pivots.specs.Choices.{AreLatest, AreLeast, IsPositiveAt, crosswise}
 use Rattle.integer_pivots.specs.Leads.{AreLeads, IsLead}
 use Rattle.integer_pivots.specs.Numbers.{AllWithin}
-use Rattle.integer_pivots.proofs.Narrowing.{has_at}
 use Rattle.integer_pivots.specs.declared.line.Line.{Line}
 use Rattle.integer_pivots.specs.Lines.{no_line, rows_of}
 use Rattle.integer_pivots.proofs.LineReads.{numbers_small}
@@ -29,6 +29,7 @@ use Rattle.table_kernel.specs.Lines.{IsBestColumn, IsNotAfterInKernel}
 use Rattle.table_kernel.specs.Numbers.{scaled_line, share_of}
 use Rattle.table_kernel.proofs.Columns.{scaled_number}
 use Rattle.table_kernel.proofs.Shares.{shares_some}
+use Rattle.table_kernel.proofs.AtBasis.{lead_less}
 
 -- a column that leads positive is positive at its lead
 lead_sign : (z : ℤ) (zs : List ℤ) → LeadsPositive (z ∷ zs) → ((z ≡ pos 0) × LeadsPositive zs) ⊎ (pos 0 <ℤ z)
@@ -84,7 +85,8 @@ module _ (rows : List (List ℤ)) (line : List ℤ) (c d : ℕ) (c_is : IsPositi
 
   read_first : LeadsNoNegative (turned_column own (numbers_in_column d rows) (pos others) (numbers_in_column c rows)) → ComesFirst rows line c d
   read_first leads =
-      subst (λ z. LeadsNoNegative (turned_column own (numbers_in_column d rows) z (numbers_in_column c rows))) (sym (positive_is (number_at line d) d_is.1)) leads
+      subst (λ z. LeadsNoNegative (turned_column own (numbers_in_column d rows) z (numbers_in_column c rows))) (sym (positive_is (number_at line d) d_is.1))
+      leads
 
   pub level_first : ((u : ℕ) → u < length rows →
       crosswise (slice_index_or rows u []) line c d ≡ crosswise (slice_index_or rows u []) line d c) →
@@ -187,7 +189,8 @@ left_first rows line left c d are has d_is =
       | inr after ↦ after c has
     ]
 
-lead_scaled : (z : ℤ) (g : ℕ) (zs ms : List ℤ) → 0 < g → (LeadsNoNegative zs → LeadsNoNegative ms) → LeadsNoNegative (z ∷ zs) → LeadsNoNegative ((z *ℤ pos g) ∷ ms)
+lead_scaled : (z : ℤ) (g : ℕ) (zs ms : List ℤ) → 0 < g → (LeadsNoNegative zs → LeadsNoNegative ms) → LeadsNoNegative (z ∷ zs) →
+    LeadsNoNegative ((z *ℤ pos g) ∷ ms)
 lead_scaled (pos zero) (suc g) zs ms some rest leads =
     subst (λ (m : ℕ). LeadsNoNegative (pos m ∷ ms)) (sym (zero-mul (suc g))) (rest leads)
 lead_scaled (pos (suc n)) (suc g) zs ms some rest leads =
@@ -210,7 +213,8 @@ leads_scaled D own c d others (line ∷ lines) shares leads =
     let x = number_at line.numbers d in
     let y = number_at line.numbers c in
     let news = turned_column own (numbers_in_column (suc d) (map (scaled_line D) lines)) others (numbers_in_column (suc c) (map (scaled_line D) lines)) in
-    let same : ((pos own *ℤ number_at (scaled_line D line) (suc d)) -ℤ (others *ℤ number_at (scaled_line D line) (suc c))) ≡ (((pos own *ℤ x) -ℤ (others *ℤ y)) *ℤ pos g) =
+    let same : ((pos own *ℤ number_at (scaled_line D line) (suc d)) -ℤ (others *ℤ number_at (scaled_line D line) (suc c))) ≡
+    (((pos own *ℤ x) -ℤ (others *ℤ y)) *ℤ pos g) =
     ap (λ z. (pos own *ℤ z) -ℤ (others *ℤ number_at (scaled_line D line) (suc c))) (scaled_number D line (suc d))
     ∙ ap (λ z. (pos own *ℤ (x *ℤ pos g)) -ℤ (others *ℤ z)) (scaled_number D line (suc c))
     ∙ ring (pos own ∷ x ∷ others ∷ y ∷ pos g ∷ []) ((var 0 ⊗ (var 1 ⊗ var 4)) ⊖ (var 2 ⊗ (var 3 ⊗ var 4))) (((var 0 ⊗ var 1) ⊖ (var 2 ⊗ var 3)) ⊗ var 4) refl in
@@ -219,25 +223,12 @@ leads_scaled D own c d others (line ∷ lines) shares leads =
     (shares 0 no_line (omega arith))
     (leads_scaled D own c d others lines (All-tail (λ (l : Line). 0 < share_of D l) line lines shares)) leads)
 
-lead_unscaled : (z : ℤ) (g : ℕ) (zs ms : List ℤ) → 0 < g → (LeadsPositive zs → LeadsPositive ms) → LeadsPositive ((z *ℤ pos g) ∷ zs) → LeadsPositive (z ∷ ms)
-lead_unscaled (pos zero) (suc g) zs ms some rest leads =
-    rest (subst (λ (m : ℕ). LeadsPositive (pos m ∷ zs)) (zero-mul (suc g)) leads)
-lead_unscaled (pos (suc n)) (suc g) zs ms some rest leads = tt
-lead_unscaled (negsuc n) (suc g) zs ms some rest leads =
-    let product : 0 < suc n * suc g = grind arith in
-    less (suc n * suc g) product leads
-  where
-    less : (m : ℕ) → 0 < m → LeadsPositive (neg_ℤ (pos m) ∷ zs) → ⊥
-    less zero m_positive given = absurd (omega arith)
-    less (suc m) m_positive given = given
-lead_unscaled z zero zs ms some rest leads = absurd (omega arith)
-
 -- and the other way round
 pub leads_raw : (D c : ℕ) (lines : List Line) → All (λ (line : Line). 0 < share_of D line) lines →
     LeadsPositive (numbers_in_column (suc c) (map (scaled_line D) lines)) → LeadsPositive (numbers_in_column c (rows_of lines))
 leads_raw D c [] shares leads = leads
 leads_raw D c (line ∷ lines) shares leads =
-    lead_unscaled (number_at line.numbers c) (share_of D line) (numbers_in_column (suc c) (map (scaled_line D) lines)) (numbers_in_column c (rows_of lines))
+    lead_less (share_of D line) (number_at line.numbers c) (numbers_in_column (suc c) (map (scaled_line D) lines)) (numbers_in_column c (rows_of lines))
     (shares 0 no_line (omega arith))
     (leads_raw D c lines (All-tail (λ (l : Line). 0 < share_of D l) line lines shares))
     (subst (λ (z : ℤ). LeadsPositive (z ∷ numbers_in_column (suc c) (map (scaled_line D) lines))) (scaled_number D line (suc c)) leads)
@@ -275,7 +266,7 @@ left_of k latest left m are =
     (λ c c_in. (let inside : c < width_of k = omega (arith, c_in, m.shaped.entering) in
     leads_raw (nat_abs k.common) c k.lows.items (shares_some k m.bounded)
     (subst (λ (rows : List (List ℤ)). LeadsPositive (numbers_in_column (suc c) rows)) m.numbers.lows
-    (m.whole.unboxed.lead c inside))))
+    (m.tableau.unboxed.lead c inside))))
     are
 
 -- a column that comes first among the lines' own numbers comes first over the common denominator
@@ -320,6 +311,6 @@ none_best k latest left s are none c c_in =
     none_left : 0 < length left → ⊥
     none_left some = omega (arith, none, some)
 
--- a row for each line
+-- a list for each line
 pub rows_counted : (k : Kernel) (v : ℕ) → v < length k.lows.items → v < length (rows_of k.lows.items)
 rows_counted k v v_in = omega (arith, v_in, length-map k.lows.items (λ (l : Line). l.numbers))

@@ -58,7 +58,8 @@ room_by factor t = nat_abs t.coefficient * factor
 sum_scaled : (factor : ℕ) (ts : List Term) → sum_by (room_by factor) ts ≡ sum_by term_size ts * factor
 sum_scaled factor [] = sym (zero-mul factor)
 sum_scaled factor (t ∷ ts) =
-    let both : (term_size t + sum_by term_size ts) * factor ≡ term_size t * factor + sum_by term_size ts * factor = add-mul (term_size t) (sum_by term_size ts) factor in
+    let both : (term_size t + sum_by term_size ts) * factor ≡ term_size t * factor + sum_by term_size ts * factor = add-mul (term_size t) (sum_by term_size ts)
+    factor in
     sum_by-cons (room_by factor) t ts
     ∙ ap (λ (n : ℕ). room_by factor t + n) (sum_scaled factor ts)
     ∙ sym both

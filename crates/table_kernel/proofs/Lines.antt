@@ -134,7 +134,8 @@ signed_line old new sign l one count put denominator reach =
       denominator = subst (λ (z : ℤ). z ≤ℤ pos (2 ^ 30)) (sym denominator) l.denominator;
       reach_positive = subst (λ (z : ℤ). pos 0 ≤ℤ z) (sym reach) l.reach_positive;
       reach = subst (λ (z : ℤ). z ≤ℤ pos (2 ^ 30)) (sym reach) l.reach;
-      numbers = λ c d c_in. subst (λ (z : ℤ). nat_abs z ≤ nat_abs new.reach) (get_or_default new.numbers c (pos 0) d c_in) (here c (omega (arith, c_in, count)));
+      numbers = λ c d c_in. subst (λ (z : ℤ). nat_abs z ≤ nat_abs new.reach) (get_or_default new.numbers c (pos 0) d c_in)
+          (here c (omega (arith, c_in, count)));
     }
   where
     here : (c : ℕ) → c < length old.numbers → nat_abs (number_at new.numbers c) ≤ nat_abs new.reach
@@ -202,7 +203,8 @@ module _ (k : Kernel) (m : IsKernel k) (place v bound : ℕ) (place_in : place <
       length new.numbers ≡ width_of k →
       ((c : ℕ) → c < width_of k → number_at new.numbers c ≡ (negsuc 0 *ℤ number_at (line_of k v).numbers c)) →
       new.denominator ≡ (line_of k v).denominator →
-      new.constant ≡ (((pos (slice_index k.table.costs.high v) -ℤ pos (slice_index k.table.costs.low v)) *ℤ (line_of k v).denominator) -ℤ (line_of k v).constant) →
+      new.constant ≡ (((pos (slice_index k.table.costs.high v) -ℤ pos (slice_index k.table.costs.low v)) *ℤ (line_of k v).denominator) -ℤ
+      (line_of k v).constant) →
       StandsForPlace k place new
   high_stands new known member count put denominator constant =
       let old = line_of k v in
@@ -310,4 +312,14 @@ keeps_entering old mid line keeps long = record {
 }
 
 pub keeps_self : (k : Kernel) → KeepsNumbers k k
-keeps_self k = record { table = refl; common = refl; lows = refl; leads = refl; constants = refl; uses = refl; turns = refl; left = omega arith; entering = refl }
+keeps_self k = record {
+  table = refl;
+  common = refl;
+  lows = refl;
+  leads = refl;
+  constants = refl;
+  uses = refl;
+  turns = refl;
+  left = omega arith;
+  entering = refl;
+}

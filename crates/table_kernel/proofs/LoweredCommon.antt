@@ -13,7 +13,7 @@ use Rattle.whole_numbers.proofs.Ring.{var, ◌⊗◌, ring, ring_by, using, noth
 use Rattle.whole_numbers.proofs.Sizes.{size_positive}
 use Rattle.whole_numbers.proofs.Sums.{lowest_unique}
 use Rattle.design_problem.specs.declared.form.Form.{Form}
-use Rattle.design_problem.specs.declared.form.CostBox.{CostBox}
+use Rattle.design_problem.specs.declared.boxes.CostBox.{CostBox}
 use Rattle.design_problem.specs.Basis.{member_form}
 use Rattle.fraction_table.specs.declared.table.Table.{Table}
 use Rattle.fraction_table.specs.ValidTables.{members_of_box, number_of_form}
@@ -193,7 +193,7 @@ module _ (k : Kernel) (common : ℤ) (l : IsLower k common) where
 pub kernel_lower : (k n : Kernel) (common : ℤ) → IsLower k common → IsKernel k → AreConstantsPut (with_common k common) n.constants.items →
     AllWithin (2 ^ 62) n.constants.items → KeepsAllButConstants (with_common k common) n → IsKernel n
 kernel_lower k n common l m are small keeps =
-    put_kernel (with_common k common) n (moving_lower k common l m) m.whole.box m.whole.fit are small keeps
+    put_kernel (with_common k common) n (moving_lower k common l m) m.tableau.box m.tableau.fit are small keeps
 
 -- a table with these lines
 abbrev with_lines : Table → List (List Fraction) → Table

@@ -1,4 +1,5 @@
--- What lines that turn come to in lowest terms: their common denominator, their constants over it, and the lines themselves.
+-- What lines that turn come to in lowest terms: their common denominator, their constants over it, and the lines
+-- themselves.
 use Prim.Native.Nat.{◌∣◌}
 use native.Mathlib.Nat.{div-mul_cancel, mul_assoc, mul_comm, one-dvd}
 use Rattle.std.proofs.Common.{◌≡◌, Bool, ◌↔◌, ℕ, ◌+◌, ◌*◌, ◌/◌, ◌^◌, ◌<◌, ◌≤◌, sym, ◌∙◌, ap, subst, List, length, arith}
@@ -12,7 +13,7 @@ use Rattle.whole_numbers.proofs.Multiples.{left_divides_lcm, right_divides_lcm}
 use Rattle.whole_numbers.proofs.Sizes.{size_positive}
 use Rattle.integer_pivots.specs.declared.line.Line.{Line}
 use Rattle.integer_pivots.specs.declared.lowest.Lowest.{Lowest}
-use Rattle.integer_pivots.specs.declared.turn.Turn.{Turn}
+use Rattle.integer_pivots.specs.declared.turned_line.Turn.{Turn}
 use Rattle.integer_pivots.specs.Lines.{IsLine, no_line}
 use Rattle.integer_pivots.specs.Turns.{AreTurnedLines, IsLowestAfter, IsTurnedLine, MayTurnTo, turn_at}
 use Rattle.integer_pivots.proofs.LowestTurns.{constant_of_line, lowest_divides, lowest_unique, small_of_line}
@@ -37,8 +38,8 @@ pub of_each_lowest : (k : Kernel) (column v : ℕ) (P : Lowest → Type 0) (own 
 of_each_lowest k column v P own own_is holds lowest is =
     subst P (lowest_unique (turn_of_line k column v) column k.entering (line_of k v) own lowest own_is is) holds
 
--- The lines before an index are small in lowest terms, and their denominators go into this number, which is at most 2^30;
--- it goes into each common denominator of what the lines turn to.
+-- The lines before an index are small in lowest terms, and their denominators go into this number, which is at most
+-- 2^30; it goes into each common denominator of what the lines turn to.
 pub record IsLowestTo (k : Kernel) (column i : ℕ) (common : ℤ) : Type 0 where
   pub range : (pos 0 <ℤ common) × (common ≤ℤ pos (2 ^ 30))
   pub each : (v : ℕ) → v < i → (lowest : Lowest) → IsLowestOf k column v lowest → (nat_abs lowest.denominator ∣ nat_abs common) × IsSmallOf k column v lowest
@@ -88,7 +89,8 @@ module _ (k : Kernel) (column v : ℕ) (lowest : Lowest) (v_in : v < length k.lo
         let new_small : nat_abs new ≤ 2 ^ 30 = size_most new (2 ^ 30) made.0 made.2 in
         let P : ℕ → Type 0 = λ u. (l : Lowest) → IsLowestOf k column u l → (nat_abs l.denominator ∣ nat_abs new) × IsSmallOf k column u l in
         let goes_in : nat_abs lowest.denominator ∣ nat_abs new =
-        subst (λ (n : ℕ). nat_abs lowest.denominator ∣ n) (sym made.1) (subst (λ (z : ℤ). nat_abs z ∣ both) d_is (right_divides_lcm (nat_abs common) (nat_abs d))) in
+        subst (λ (n : ℕ). nat_abs lowest.denominator ∣ n) (sym made.1) (subst (λ (z : ℤ). nat_abs z ∣ both) d_is
+        (right_divides_lcm (nat_abs common) (nat_abs d))) in
         let wider : nat_abs common ∣ nat_abs new = subst (λ (n : ℕ). nat_abs common ∣ n) (sym made.1) (left_divides_lcm (nat_abs common) (nat_abs d)) in
         subst (IsLowestTo k column (v + 1)) (sym (read_number new (omega (arith, new_small))))
         (record {
@@ -149,7 +151,8 @@ may_fit k column common may least v v_in lowest is =
     sym (unsigned_abs-mul lowest.constant new.denominator)
     ∙ ap nat_abs (constant_of_line (turn_of_line k column v) column k.entering (line_of k v) lowest new is turned)
     ∙ unsigned_abs-mul new.constant lowest.denominator in
-    over_divisor (nat_abs lowest.constant) (nat_abs new.constant) (nat_abs new.denominator) (nat_abs lowest.denominator) (nat_abs common) (nat_abs may.common) (2 ^ 44)
+    over_divisor (nat_abs lowest.constant) (nat_abs new.constant) (nat_abs new.denominator) (nat_abs lowest.denominator) (nat_abs common) (nat_abs may.common)
+    (2 ^ 44)
     same (least.least may.lows (nat_abs may.common) may.turned may.bounded.divides) (least.each v v_in lowest is).0 (may.bounded.divides v no_line new_in)
     (size_positive may.common may.bounded.positive) (size_positive new.denominator turned.positive) (size_positive lowest.denominator is.positive)
     (may.bounded.limit v no_line new_in)
@@ -212,7 +215,8 @@ module _ (k : Kernel) (column : ℕ) (common : ℤ) (least : IsLowestCommon k co
       record {
         numbers = e.1;
         denominator = omega (arith, ints, divisor, all_small);
-        constant = within_share (nat_abs lowest.constant) (nat_abs common / nat_abs lowest.denominator) (quotient_positive (nat_abs common) (nat_abs lowest.denominator) some e.0)
+        constant = within_share (nat_abs lowest.constant) (nat_abs common / nat_abs lowest.denominator)
+            (quotient_positive (nat_abs common) (nat_abs lowest.denominator) some e.0)
             (fits v v_in lowest is);
       }
 

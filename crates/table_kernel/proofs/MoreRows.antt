@@ -1,7 +1,7 @@
 -- One more row: the kernel stays one with the row's constant at the end.
 use Prim.Native.Nat.{◌∣◌}
 use Rattle.std.specs.declared.alloc.Global.{Global}
-use Rattle.std.proofs.Common.{Vec, ◌≡◌, ◌≢◌, ℕ, suc, ◌+◌, ◌*◌, ◌^◌, ◌<◌, ◌≤◌, inl, inr, refl, sym, ◌∙◌, ap, subst, List, [], ◌∷◌, ◌++◌, length, map, arith}
+use Rattle.std.proofs.Common.{Vec, ◌≡◌, ◌≢◌, ℕ, suc, ◌+◌, ◌*◌, ◌^◌, ◌<◌, ◌≤◌, inl, inr, sym, ◌∙◌, ap, subst, List, [], ◌∷◌, ◌++◌, length, map, arith}
 use Rattle.std.specs.Prelude.{ℤ, pos, ◌+ℤ◌, ◌*ℤ◌, ◌<ℤ◌, ◌≤ℤ◌, nat_abs, slice_index_or, vec_capacity, All}
 use Rattle.std.proofs.Math.Seq.{get_or-append_seam}
 use Rattle.std.proofs.lemmas.Bool.{cases_lt}
@@ -11,7 +11,7 @@ use Rattle.whole_numbers.specs.Fractions.{Fraction}
 use Rattle.whole_numbers.specs.Lists.{number_at}
 use Rattle.whole_numbers.proofs.Sizes.{positive_is}
 use Rattle.design_problem.specs.declared.form.Form.{Form}
-use Rattle.design_problem.specs.declared.form.CostBox.{CostBox}
+use Rattle.design_problem.specs.declared.boxes.CostBox.{CostBox}
 use Rattle.design_problem.specs.declared.tree.Member.{Member}
 use Rattle.design_problem.specs.declared.tree.Member.TheVariants.{Low, Row}
 use Rattle.design_problem.specs.Forms.{no_form, value_for_costs}
@@ -23,13 +23,12 @@ use Rattle.fraction_table.specs.ValidTables.{AreMixtures, low_forms, members_of_
 use Rattle.fraction_table.proofs.MoreRows.{form_kept, forms_kept, member_kept, members_more, one_all}
 use Rattle.fraction_table.proofs.Pivots.{members_long}
 use Rattle.fraction_table.proofs.StartingTables.{members_are}
-use Rattle.fraction_table.proofs.Bases.{members_begin}
 use Rattle.integer_pivots.specs.declared.line.Line.{Line}
 use Rattle.integer_pivots.specs.Lines.{IsLine, rows_of}
 use Rattle.integer_pivots.specs.Leads.{AreLeads}
 use Rattle.integer_pivots.specs.Numbers.{AllWithin, product_sum, weight_of}
 use Rattle.integer_pivots.specs.Uses.{uses_in, uses_by}
-use Rattle.integer_pivots.specs.declared.turn.Turn.{Turn}
+use Rattle.integer_pivots.specs.declared.turned_line.Turn.{Turn}
 use Rattle.table_kernel.specs.declared.kernel.Kernel.{Kernel}
 use Rattle.table_kernel.specs.Kernels.{IsBounded, IsKernel, IsShaped, lows_of, width_of}
 use Rattle.table_kernel.specs.Bases.{AreAtBasis}
@@ -39,7 +38,7 @@ use Rattle.table_kernel.specs.Rows.{IsCovered, row_constant_of}
 use Rattle.table_kernel.proofs.AtBasis.{basis_kernel, kernel_basis}
 use Rattle.table_kernel.proofs.Columns.{constant_number, constants_long, low_constants}
 use Rattle.table_kernel.proofs.ConstantSums.{sums_alike}
-use Rattle.table_kernel.proofs.Places.{low_total}
+use Rattle.table_kernel.proofs.Corners.{low_constant_is}
 
 -- another form among the rows changes nothing at the basis
 basis_more : (costs : CostBox) (rows : List Form) (basis : List Member) (D : ℕ) (lows : List (List ℤ)) (f : Form) →
@@ -97,19 +96,6 @@ constants_more costs rows D lows constants f z counted z_is are place place_in =
           (sym (grown ∙ subst (λ (p : ℕ). slice_index_or (members ++ Row (length rows) ∷ []) p (Low 0 0)
           ≡ Row (length rows)) last_member (get_or-append_seam members (Row (length rows)) [] (Low 0 0))))
     ]
-
--- the constants of x - low stand first among a kernel's
-pub low_first : (k : Kernel) → IsKernel k → (v : ℕ) → v < width_of k → number_at k.constants.items v ≡ number_at (low_constants k) v
-low_first k m v v_in =
-    let n = width_of k in
-    let costs = k.table.costs in
-    let many = length k.table.rows.items in
-    let s = m.shaped in
-    let there : v < length k.constants.items = omega (arith, s.constants, members_long costs many, v_in) in
-    (kernel_basis k m).1 v there
-    ∙ ap (λ (member : Member). number_of_form (nat_abs k.common) costs.low (lows_of k) (member_form n k.table.rows.items member) 0)
-    (members_begin costs many v (Low 0 0) v_in)
-    ∙ low_total costs k.table.rows.items (nat_abs k.common) (lows_of k) (low_constants k) refl (constants_long k s) v v_in
 
 -- what a kernel has with one more row, but for its line in fractions
 pub record IsGrown (old new : Kernel) (f : Form) (z : ℤ) : Type 0 where
@@ -232,16 +218,16 @@ kernel_more old new f line z m fits covered z_is small g is long =
     (sums_alike f.coefficients old.constants.items (low_constants old)
     (omega (arith, fits.count, s.constants, members_long costs (length old.table.rows.items)))
     (omega (arith, fits.count, constants_long old s))
-    (λ v v_in. low_first old m v (omega (arith, v_in, fits.count))))
+    (λ v v_in. low_constant_is old m v (omega (arith, v_in, fits.count))))
     ∙ sym (constant_number old D costs.low f) in
     let at = basis_more costs old.table.rows.items basis D (lows_of old) f fits.count there.0 in
     let are = constants_more costs old.table.rows.items D (lows_of old) old.constants.items f z s.constants constant there.1 in
     let lows : lows_of new ≡ lows_of old =
     ap (λ (y : ℤ). map (scaled_line (nat_abs y)) new.lows.items) g.common ∙ ap (λ (ls : Vec Line Global). map (scaled_line D) ls.items) g.lows in
     basis_kernel new (grown_shaped old new f z s g (line_more old new f line z s g is long)) (grown_bounded old new f z m.bounded covered small g)
-    (subst (λ (box : CostBox). IsBox (length box.low) box) (sym g.table.costs) m.whole.box)
+    (subst (λ (box : CostBox). IsBox (length box.low) box) (sym g.table.costs) m.tableau.box)
     (subst (λ (box : CostBox). All (FitsBox box) new.table.rows.items) (sym g.table.costs)
-    (subst (All (FitsBox costs)) (sym g.table.rows) (All-append (FitsBox costs) old.table.rows.items (f ∷ []) m.whole.fit (one_all (FitsBox costs) f fits))))
+    (subst (All (FitsBox costs)) (sym g.table.rows) (All-append (FitsBox costs) old.table.rows.items (f ∷ []) m.tableau.fit (one_all (FitsBox costs) f fits))))
     (subst (λ (box : CostBox). AreAtBasis box new.table.rows.items new.table.basis.items (nat_abs new.common) (lows_of new)) (sym g.table.costs)
     (subst (λ (fs : List Form). AreAtBasis costs fs new.table.basis.items (nat_abs new.common) (lows_of new)) (sym g.table.rows)
     (subst (λ (ms : List Member). AreAtBasis costs rows ms (nat_abs new.common) (lows_of new)) (sym g.table.basis)

@@ -8,7 +8,7 @@ use Rattle.std.proofs.lemmas.List.{get_or_default, length-map}
 use Rattle.whole_numbers.specs.Fractions.{Fraction}
 use Rattle.whole_numbers.specs.Lists.{number_at}
 use Rattle.design_problem.specs.declared.form.Form.{Form}
-use Rattle.design_problem.specs.declared.form.CostBox.{CostBox}
+use Rattle.design_problem.specs.declared.boxes.CostBox.{CostBox}
 use Rattle.design_problem.specs.declared.tree.Member.{Member}
 use Rattle.design_problem.specs.declared.tree.Member.TheVariants.{High, Low}
 use Rattle.design_problem.specs.Basis.{member_form}
@@ -70,7 +70,8 @@ moved_shape k s next before after column far o next_width is =
       lows = is.lines.count ∙ o.lows ∙ sym width;
       each =
           subst (λ (w : ℕ). All (λ (line : Line). length line.numbers ≡ w) s.lows.items) (sym width)
-          (all_moved far k.lows.items s.lows.items (λ (line : Line). length line.numbers ≡ width_of k) (λ (line : Line). length line.numbers ≡ width_of k) is.lines
+          (all_moved far k.lows.items s.lows.items (λ (line : Line). length line.numbers ≡ width_of k) (λ (line : Line). length line.numbers ≡ width_of k)
+          is.lines
           (λ old new m long. ap (λ (line : Line). length line.numbers) m.same ∙ long) o.each);
       leads = ap (λ leads. length leads.items) is.keeps.leads ∙ o.leads ∙ sym width;
       lead =

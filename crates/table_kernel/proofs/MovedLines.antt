@@ -43,11 +43,13 @@ raised_line_moved : (column far : ℕ) (fall : ℤ) (line : Line) → nat_abs fa
 raised_line_moved column far fall line far_is =
     let times : nat_abs (fall *ℤ number_at line.numbers column) ≡ nat_abs fall * nat_abs (number_at line.numbers column) =
     unsigned_abs-mul fall (number_at line.numbers column) in
-    let most : nat_abs fall * nat_abs (number_at line.numbers column) ≤ nat_abs fall * step_of line = mul-le-mul_left (nat_abs fall) (number_step line column) in
+    let most : nat_abs fall * nat_abs (number_at line.numbers column) ≤ nat_abs fall * step_of line = mul-le-mul_left (nat_abs fall) (number_step line column)
+    in
     let is : nat_abs fall * step_of line ≡ far * step_of line = ap (λ (m : ℕ). m * step_of line) far_is in
     record {
       same = refl;
-      size = sum_small (nat_abs line.constant) (far * step_of line) line.constant (fall *ℤ number_at line.numbers column) (omega arith) (omega (arith, times, most, is));
+      size = sum_small (nat_abs line.constant) (far * step_of line) line.constant (fall *ℤ number_at line.numbers column) (omega arith)
+          (omega (arith, times, most, is));
     }
 
 lowered_line_moved : (far : ℕ) (fall : ℤ) (line : Line) → nat_abs fall ≡ far →
@@ -59,7 +61,8 @@ lowered_line_moved far fall line far_is =
     let is : step_of line * nat_abs fall ≡ far * step_of line = grind (arith, far_is) in
     record {
       same = refl;
-      size = difference_small (nat_abs line.constant) (far * step_of line) line.constant (line.denominator *ℤ fall) (omega arith) (omega (arith, times, most, is));
+      size = difference_small (nat_abs line.constant) (far * step_of line) line.constant (line.denominator *ℤ fall) (omega arith)
+          (omega (arith, times, most, is));
     }
 
 zero_line_moved : (far : ℕ) (line : Line) → IsLineMoved far line (with_constant line (pos 0))
@@ -97,7 +100,8 @@ pub low_lines_moved : (far v : ℕ) (lines : List Line) (column : Option ℕ) (f
 low_lines_moved far v lines None fall v_in far_is =
     set_moved far v lines lines _ v_in (none_moved far lines) (lowered_line_moved far fall (slice_index_or lines v no_line) far_is)
 low_lines_moved far v lines (Some j) fall v_in far_is =
-    set_moved far v lines (map (raised_kernel_line j fall) lines) _ v_in (raised_moved j far fall lines far_is) (zero_line_moved far (slice_index_or lines v no_line))
+    set_moved far v lines (map (raised_kernel_line j fall) lines) _ v_in (raised_moved j far fall lines far_is)
+    (zero_line_moved far (slice_index_or lines v no_line))
 
 pub high_lines_moved : (far : ℕ) (lines : List Line) (column : Option ℕ) (fall : ℤ) → nat_abs fall ≡ far →
     AreLinesMoved far lines (lines_after_high lines column fall)
@@ -138,7 +142,8 @@ room_after D far more old new m may =
 pub limit_after : (D far : ℕ) (old new : Line) → IsLineMoved far old new → LineMayMove D far old → nat_abs new.constant * share_of D new ≤ 2 ^ 44
 limit_after D far old new m may =
     let share : share_of D new ≡ share_of D old = ap (share_of D) m.same in
-    let product : nat_abs new.constant * share_of D old ≤ (nat_abs old.constant + far * step_of old) * share_of D old = mul-le-mul_right (share_of D old) m.size in
+    let product : nat_abs new.constant * share_of D old ≤ (nat_abs old.constant + far * step_of old) * share_of D old = mul-le-mul_right (share_of D old) m.size
+    in
     subst (λ (s : ℕ). nat_abs new.constant * s ≤ 2 ^ 44) (sym share) (omega (arith, product, may))
 
 -- less room is wanted
@@ -160,7 +165,8 @@ raised_scaled D column fall line =
     ((var 0 ⊕ var 1 ⊗ var 2) ⊗ var 3) (var 0 ⊗ var 3 ⊕ (var 2 ⊗ var 3) ⊗ var 1) refl
     ∙ ap (λ (z : ℤ). (line.constant *ℤ s) +ℤ (z *ℤ fall)) (sym (scaled_at s line.numbers column)))
 
-raised_all : (D column : ℕ) (fall : ℤ) (lines : List Line) → map (scaled_line D) (map (raised_kernel_line column fall) lines) ≡ map (raised column fall) (map (scaled_line D) lines)
+raised_all : (D column : ℕ) (fall : ℤ) (lines : List Line) → map (scaled_line D) (map (raised_kernel_line column fall) lines) ≡
+    map (raised column fall) (map (scaled_line D) lines)
 raised_all D column fall [] = refl
 raised_all D column fall (line ∷ lines) =
     ap (λ (ts : List ℤ). ts ∷ map (scaled_line D) (map (raised_kernel_line column fall) lines)) (raised_scaled D column fall line)

@@ -6,7 +6,7 @@ use Rattle.std.proofs.lemmas.List.Elements.{All-tail}
 use Rattle.cost_base.specs.Lists.{numbers_from}
 use Rattle.whole_numbers.specs.Fractions.{gcd}
 use Rattle.whole_numbers.proofs.FractionLaws.{nat_abs-over, reduced_lowest, reduced_stands}
-use Rattle.fraction_rows.specs.TableRows.{AreTableNumbers, IsTableNumber}
+use Rattle.fraction_lines.specs.TableLines.{AreTableNumbers, IsTableNumber}
 use Rattle.fraction_table.specs.ValidTables.{Stand}
 use Rattle.integer_pivots.specs.Numbers.{AllWithin}
 use Rattle.table_kernel.specs.Numbers.{over_common}

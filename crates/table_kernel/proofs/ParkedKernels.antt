@@ -4,7 +4,7 @@ use Rattle.std.specs.Prelude.{pos}
 use Rattle.std.proofs.lemmas.List.{get_or_default}
 use Rattle.whole_numbers.specs.Fractions.{Fraction}
 use Rattle.design_problem.specs.declared.form.Form.{Form}
-use Rattle.design_problem.specs.declared.form.CostBox.{CostBox}
+use Rattle.design_problem.specs.declared.boxes.CostBox.{CostBox}
 use Rattle.fraction_table.specs.declared.stage.Stage.TheVariants.{Open}
 use Rattle.fraction_table.specs.RowLines.{HoldsSame}
 use Rattle.fraction_table.specs.Tableaus.{Held, starting}
@@ -38,7 +38,7 @@ pub started_parked : (k : Kernel) (costs : CostBox) (top : ℕ) →
 started_parked k costs top held sound s =
     let costs_are : k.table.costs ≡ costs = ap (λ (h : Held). h.costs) held in
     record {
-      shaped = starting_shaped k (sound.whole tt) sound.room (ap (λ (h : Held). h.rows) held) (subst (IsStarting k) (sym costs_are) s);
+      shaped = starting_shaped k (sound.tableau tt) sound.room (ap (λ (h : Held). h.rows) held) (subst (IsStarting k) (sym costs_are) s);
       constants = wider (2 ^ 27) (2 ^ 62) k.constants.items (omega arith) s.small;
     }
 

@@ -21,7 +21,7 @@ use Rattle.fraction_table.proofs.theory.TurnedLeads.{column_other, length-number
 use Rattle.fraction_table.proofs.theory.TurnedNumbers.{numbers_at, numbers_long}
 use Rattle.fraction_table.proofs.theory.Turns.{turned_rows}
 use Rattle.integer_pivots.specs.declared.line.Line.{Line}
-use Rattle.integer_pivots.specs.declared.turn.Turn.{Turn}
+use Rattle.integer_pivots.specs.declared.turned_line.Turn.{Turn}
 use Rattle.integer_pivots.specs.declared.uses.Use.{Use}
 use Rattle.integer_pivots.specs.Lines.{no_line}
 use Rattle.integer_pivots.specs.Numbers.{weight_of}
@@ -130,7 +130,7 @@ module _ (k : Kernel) (place column : ℕ) (p : IsPivotIn k place column) where
     after_positive : 0 < nat_abs h.common
     after_positive = size_positive h.common t.positive
 
-    -- the new numbers over the old denominator and the pivot are the turned rows over the new one
+    -- the new numbers over the old denominator and the pivot are the turned lines over the new one
     rows_are : map (scaled_by (nat_abs k.common * nat_abs (number_at (place_numbers k place) (suc column)))) (lows_of h)
         ≡ map (scaled_by (nat_abs h.common)) (turned_rows (lows_of k) (place_numbers k place) (suc column) (nat_abs k.common))
     rows_are =
@@ -208,8 +208,8 @@ module _ (k : Kernel) (place column : ℕ) (p : IsPivotIn k place column) where
       pub kernel_is : IsKernel (with_basis h basis)
       kernel_is =
           basis_kernel (with_basis h basis) shaped_is bounded_is
-          (subst (λ (u : Table). IsBox (length u.costs.low) u.costs) (sym t.table) p.kernel.whole.box)
-          (subst (λ (u : Table). All (FitsBox u.costs) u.rows.items) (sym t.table) p.kernel.whole.fit)
+          (subst (λ (u : Table). IsBox (length u.costs.low) u.costs) (sym t.table) p.kernel.tableau.box)
+          (subst (λ (u : Table). All (FitsBox u.costs) u.rows.items) (sym t.table) p.kernel.tableau.fit)
           (subst (λ (ms : List Member). AreAtBasis h.table.costs h.table.rows.items ms (nat_abs h.common) (lows_of h)) (sym basis_set)
           (subst (λ (u : Table). AreAtBasis u.costs u.rows.items (slice_set u.basis.items column (member_at k.table place))
           (nat_abs h.common) (lows_of h)) (sym t.table) basis_is))
@@ -254,8 +254,8 @@ module _ (k : Kernel) (place column : ℕ) (p : IsPivotIn k place column) where
       pub rank_rose : rank (stated k) < rank (stated (with_basis h basis))
       rank_rose =
           let n = with_basis h basis in
-          let w = p.kernel.whole in
-          let v = kernel_is.whole in
+          let w = p.kernel.tableau in
+          let v = kernel_is.tableau in
           let common_before : w.unboxed.common ≡ nat_abs k.common = ap nat_abs p.kernel.numbers.common in
           let common_after : v.unboxed.common ≡ nat_abs h.common = ap nat_abs kernel_is.numbers.common in
           rank_rises_to (stated k) (stated n) w v forms_kept

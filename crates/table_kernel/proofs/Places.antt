@@ -5,7 +5,7 @@ use Rattle.std.proofs.lemmas.Bool.{cases_eq, cases_lt}
 use Rattle.whole_numbers.proofs.Ring.{var, num, ◌⊕◌, ◌⊖◌, ◌⊗◌, ring}
 use Rattle.whole_numbers.specs.Lists.{number_at}
 use Rattle.design_problem.specs.declared.form.Form.{Form}
-use Rattle.design_problem.specs.declared.form.CostBox.{CostBox}
+use Rattle.design_problem.specs.declared.boxes.CostBox.{CostBox}
 use Rattle.design_problem.specs.declared.tree.Member.{Member}
 use Rattle.design_problem.specs.declared.tree.Member.TheVariants.{High, Low}
 use Rattle.design_problem.specs.Forms.{no_form, value_for_costs}
@@ -31,15 +31,18 @@ place_cases n r i i_in =
     ]
 
 -- the constants of the forms of a variable and of a row, by those of x - low, which zs has
-module _ (costs : CostBox) (rows : List Form) (D : ℕ) (lows : List (List ℤ)) (zs : List ℤ) (zs_are : zs ≡ map (λ ts. number_at ts 0) lows) (zs_long : length zs ≡ length costs.low) where
+module _ (costs : CostBox) (rows : List Form) (D : ℕ) (lows : List (List ℤ)) (zs : List ℤ) (zs_are : zs ≡ map (λ ts. number_at ts 0) lows)
+    (zs_long : length zs ≡ length costs.low) where
   total_is : (f : Form) → number_of_form D costs.low lows f 0 ≡ ((pos D *ℤ value_for_costs f costs.low) +ℤ product_sum f.coefficients zs)
   total_is f =
       ap (λ z. (pos D *ℤ value_for_costs f costs.low) +ℤ z) (from_lows_at f.coefficients lows 0 ∙ ap (product_sum f.coefficients) (sym zs_are))
 
-  pub low_total : (v : ℕ) → v < length costs.low → number_of_form D costs.low lows (member_form (length costs.low) rows (Low v (slice_index costs.low v))) 0 ≡ number_at zs v
+  pub low_total : (v : ℕ) → v < length costs.low → number_of_form D costs.low lows (member_form (length costs.low) rows (Low v (slice_index costs.low v))) 0 ≡
+      number_at zs v
   low_total v v_in =
       total_is (member_form (length costs.low) rows (Low v (slice_index costs.low v)))
-      ∙ ap (λ z. (pos D *ℤ z) +ℤ product_sum (member_form (length costs.low) rows (Low v (slice_index costs.low v))).coefficients zs) (low_value costs.low rows v v_in)
+      ∙ ap (λ z. (pos D *ℤ z) +ℤ product_sum (member_form (length costs.low) rows (Low v (slice_index costs.low v))).coefficients zs)
+      (low_value costs.low rows v v_in)
       ∙ ap (λ z. (pos D *ℤ pos 0) +ℤ z) (unit_sum (length costs.low) v (pos 1) zs v_in (sym zs_long))
       ∙ ring (pos D ∷ number_at zs v ∷ []) ((var 0 ⊗ num (pos 0)) ⊕ num (pos 1) ⊗ var 1) (var 1) refl
 

@@ -1,4 +1,4 @@
--- Lines that were read from the rows of x - low are at the table's basis.
+-- Lines that were read from the lines of x - low are at the table's basis.
 use Prim.Native.Nat.{◌∣◌}
 use native.Mathlib.Nat.{div-mul_cancel}
 use Rattle.std.proofs.Common.{◌≡◌, ℕ, zero, suc, ◌/◌, ◌<◌, refl, sym, ◌∙◌, ap, subst, List, [], ◌∷◌, map, length, arith}
@@ -18,12 +18,12 @@ use Rattle.integer_pivots.specs.declared.line.Line.{Line}
 use Rattle.integer_pivots.specs.Lines.{no_line}
 use Rattle.table_kernel.specs.Bases.{AreAtBasis}
 use Rattle.table_kernel.specs.Numbers.{scaled_line, share_of}
-use Rattle.table_kernel.specs.ReadBack.{IsReadFrom, low_row, over_denominator}
+use Rattle.table_kernel.specs.ReadBack.{IsReadFrom, low_line, over_denominator}
 use Rattle.table_kernel.proofs.AtBasis.{at_basis, crossed_basis, number_scaled, scaled_by}
 use Rattle.table_kernel.proofs.Columns.{line_number, scaled_number}
 use Rattle.table_kernel.proofs.LeastCommon.{GoesInto}
 
--- a line's number at a place is that of its row
+-- a line's number at a place is that of its fractions
 read_at : (row : List Fraction) (line : Line) → IsReadFrom row line → (place : ℕ) → place < length row →
     line_number line place ≡ over_denominator (nat_abs line.denominator) (entry row place)
 read_at row line r zero place_in = r.constant
@@ -43,7 +43,7 @@ same_over z m d D C divides same =
     (using (var 1) (var 0 ⊗ var 2) (var 3 ⊗ var 4) same nothing) refl
     ∙ ap (λ (n : ℕ). m *ℤ pos n) (div-mul_cancel d divides)
 
--- the numbers of a row over one denominator, for which its fractions stand
+-- the numbers of a line over one denominator, for which its fractions stand
 abbrev pub StandFor : List Fraction → List ℤ → ℕ → Type 0
 StandFor row ts D = (place : ℕ) → place < length row → (0 < (entry row place).denominator) × StandsFor (entry row place) (number_at ts place) D
 
@@ -73,7 +73,7 @@ crossed_row row line ts D C r divides long stand =
 
 -- the lines of all variables were read from the table
 abbrev pub AreReadFrom : Table → List Line → Type 0
-AreReadFrom t lines = (var : ℕ) → var < length t.costs.low → IsReadFrom (low_row t var) (slice_index_or lines var no_line)
+AreReadFrom t lines = (var : ℕ) → var < length t.costs.low → IsReadFrom (low_line t var) (slice_index_or lines var no_line)
 
 module _ (t : Table) (w : IsTableau t) (lines : List Line) (C : ℕ) (many : length lines ≡ length t.costs.low)
     (long : All (λ (line : Line). length line.numbers ≡ length t.costs.low) lines) (read : AreReadFrom t lines) (divides : All (GoesInto C) lines) where
@@ -86,9 +86,9 @@ module _ (t : Table) (w : IsTableau t) (lines : List Line) (C : ℕ) (many : len
       let n = length t.costs.low in
       let there : v < n = omega (arith, many, v_in) in
       let counted : n ≡ length lows = lows_counted t.top t.costs t.rows.items t.basis.items t.lines.items w in
-      let wide : length (low_row t v) ≡ suc n = (read v there).count ∙ ap suc (long v no_line v_in) in
+      let wide : length (low_line t v) ≡ suc n = (read v there).count ∙ ap suc (long v no_line v_in) in
       let ts_long : length (slice_index_or lows v []) ≡ suc n = long_at (suc n) lows v w.unboxed.long (omega (arith, counted, there)) in
-      crossed_row (low_row t v) (slice_index_or lines v no_line) (slice_index_or lows v []) w.unboxed.common C (read v there) (divides v no_line v_in)
+      crossed_row (low_line t v) (slice_index_or lines v no_line) (slice_index_or lows v []) w.unboxed.common C (read v there) (divides v no_line v_in)
       (ts_long ∙ sym wide)
       (λ place place_in. low_line_stands t.top t.costs t.rows.items t.basis.items t.lines.items w v place there (omega (arith, place_in, wide)))
 

@@ -1,4 +1,4 @@
--- Lines that are read from rows of fractions, number by number.
+-- Lines that are read from lines of fractions, number by number.
 use borrow.Author.Count.{below_more}
 use Rattle.std.proofs.Common.{◌≡◌, ℕ, zero, suc, ◌+◌, ◌/◌, ◌^◌, ◌<◌, ◌≤◌, sym, ◌∙◌, ap, subst, List, length, arith}
 use Rattle.std.specs.Prelude.{ℤ, pos, ◌≤ℤ◌, nat_abs, slice_set}
@@ -22,7 +22,7 @@ pub record IsReadOf (q : Fraction) (denominator number : ℤ) : Type 0 where
   pub is : number ≡ over_denominator (nat_abs denominator) q
   pub small : nat_abs number ≤ 2 ^ 30
 
--- the numbers before this column are those of the row over the denominator
+-- the numbers before this column are those of the fractions over the denominator
 pub record AreReadTo (row : List Fraction) (denominator : ℤ) (old : List ℤ) (column : ℕ) (new : List ℤ) : Type 0 where
   pub count : length new ≡ length old
   pub each : (c : ℕ) → c < column → IsReadOf (entry row (suc c)) denominator (number_at new c)
@@ -63,11 +63,11 @@ over_greater d D q most =
     let share : d / q.denominator ≤ D / q.denominator = quotient_greater d D q.denominator most in
     omega (arith, product_size q.numerator (d / q.denominator), product_size q.numerator (D / q.denominator), mul-le-mul_left (nat_abs q.numerator) share)
 
--- a denominator over which the row fits isn't below the least one
+-- a denominator over which the fractions fit isn't below the least one
 least_below : (row : List Fraction) (denominator : ℤ) (D : ℕ) → IsLeastDenominator row denominator → FitsOver D row → nat_abs denominator ≤ D
 least_below row denominator D is fits = le_of_dvd fits.positive (is.least D fits.common)
 
--- so where the constant or a number is too large over the least one, the row fits over none
+-- so where the constant or a number is too large over the least one, the fractions fit over none
 pub constant_refused : (row : List Fraction) (denominator : ℤ) (q : Fraction) → IsLeastDenominator row denominator → q ≡ entry row 0 →
     2 ^ 44 < nat_abs (over_denominator (nat_abs denominator) q) → (D : ℕ) → FitsOver D row → ⊥
 constant_refused row denominator q is q_is large D fits =

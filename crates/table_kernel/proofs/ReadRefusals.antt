@@ -1,4 +1,5 @@
--- Where the bounds cover a table in fractions, the lines that were read from it have a common denominator, over which their constants fit.
+-- Where the bounds cover a table in fractions, the lines that were read from it have a common denominator, over which
+-- their constants fit.
 use Prim.Native.Nat.{◌∣◌}
 use native.Mathlib.Nat.{div-mul_cancel, mul_assoc, mul_comm}
 use Rattle.std.proofs.Common.{◌≡◌, ℕ, ◌*◌, ◌/◌, ◌^◌, ◌<◌, ◌≤◌, sym, ◌∙◌, ap, subst, List, length, arith}
@@ -13,7 +14,7 @@ use Rattle.fraction_table.specs.declared.table.Table.{Table}
 use Rattle.integer_pivots.specs.declared.line.Line.{Line}
 use Rattle.integer_pivots.specs.Lines.{no_line}
 use Rattle.table_kernel.specs.Numbers.{share_of}
-use Rattle.table_kernel.specs.ReadBack.{IsLeastCommon, IsReadFrom, MayReadBack, low_row, over_denominator}
+use Rattle.table_kernel.specs.ReadBack.{IsLeastCommon, IsReadFrom, MayReadBack, low_line, over_denominator}
 use Rattle.table_kernel.proofs.FittingConstants.{FitsIn}
 use Rattle.table_kernel.proofs.LeastCommon.{GoesInto}
 use Rattle.table_kernel.proofs.ReadBases.{AreReadFrom}
@@ -67,11 +68,11 @@ module _ (t : Table) (m : MayReadBack t) (lines : List Line) (many : length line
       let there : v < length t.costs.low = omega (arith, v_in, many) in
       let line = slice_index_or lines v no_line in
       let C = nat_abs common in
-      let q = entry (low_row t v) 0 in
+      let q = entry (low_line t v) 0 in
       let r = read v there in
       let goes : GoesInto C line = least.multiple v no_line v_in in
       let own : q.denominator ∣ C = dvd_trans q.denominator (r.least.common 0 (omega (arith, r.count))) goes in
       let small : nat_abs (over_denominator C q) ≤ 2 ^ 44 =
       less_over q C m.common (2 ^ 44) own (least.least m.common common_goes) m.positive (m.constants v there) in
       subst (FitsIn C) (get_or_default lines v no_line d v_in)
-      (subst (λ (n : ℕ). n ≤ 2 ^ 44) (sym (constant_over (low_row t v) line C r goes)) small)
+      (subst (λ (n : ℕ). n ≤ 2 ^ 44) (sym (constant_over (low_line t v) line C r goes)) small)

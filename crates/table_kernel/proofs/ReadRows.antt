@@ -13,17 +13,18 @@ use Rattle.whole_numbers.proofs.Divisors.{quotient_positive}
 use Rattle.whole_numbers.proofs.Multiples.{lcm_positive, right_divides_lcm}
 use Rattle.whole_numbers.proofs.Sizes.{positive_is, product_size, size_positive}
 use Rattle.wide_fraction.specs.Widths.{IsFractionIn127Bits}
+use Rattle.fraction_table.proofs.MultiplierSteps.{read_back}
 use Rattle.integer_pivots.proofs.Sizes.{product_small, read, read_number, size_most, size_of}
 use Rattle.table_kernel.specs.ReadBack.{over_denominator}
-use Rattle.table_kernel.proofs.WideNumbers.{read_of, read_wide}
+use Rattle.table_kernel.proofs.WideNumbers.{read_of}
 
 -- a fraction's numbers, as 128 bits hold them
 pub numerator_read : (q : Fraction) (top : ℤ) → IsFractionIn127Bits q → top ≡ q.numerator → read_of top ≡ q.numerator
-numerator_read q top is same = ap read_of same ∙ read_wide q.numerator is.numerator
+numerator_read q top is same = ap read_of same ∙ read_back q.numerator is.numerator
 
 denominator_read : (q : Fraction) (denominator : ℤ) → IsFractionIn127Bits q → denominator ≡ pos q.denominator →
     read_of denominator ≡ pos q.denominator
-denominator_read q denominator is same = ap read_of same ∙ read_wide (pos q.denominator) is.denominator
+denominator_read q denominator is same = ap read_of same ∙ read_back (pos q.denominator) is.denominator
 
 -- the least common multiple with a large denominator is large
 pub large_multiple : (common denominator : ℤ) (q : Fraction) → pos 0 <ℤ common → IsFractionIn127Bits q → denominator ≡ pos q.denominator →
@@ -74,12 +75,12 @@ module _ (q : Fraction) (denominator top wide below : ℤ) (m : IsNumberMade q d
   wide_read : read_of wide ≡ pos D
   wide_read =
       ap read_of (m.wide_is ∙ read_number denominator (omega (arith, D_small)) ∙ positive_is denominator m.positive)
-      ∙ read_wide (pos D) (omega (arith, D_small))
+      ∙ read_back (pos D) (omega (arith, D_small))
 
   share_read : read_of (quot_z (read_of wide) (read_of below)) ≡ pos (D / q.denominator)
   share_read =
       ap read_of (ap₂ quot_z wide_read (denominator_read q below m.fraction m.below_is))
-      ∙ read_wide (pos (D / q.denominator)) (omega (arith, share_small))
+      ∙ read_back (pos (D / q.denominator)) (omega (arith, share_small))
 
   product_is : product_made top wide below ≡ over_denominator D q
   product_is = ap₂ (λ (y z : ℤ). y *ℤ z) (numerator_read q top m.fraction m.top_is) share_read
@@ -92,4 +93,4 @@ module _ (q : Fraction) (denominator top wide below : ℤ) (m : IsNumberMade q d
   product_fits few = subst (FitsSigned w128) (sym product_is) (fits_signed_from_abs w128 (over_denominator D q) (product_within few))
 
   pub product_read : nat_abs q.numerator ≤ 2 ^ 44 → read_of (product_made top wide below) ≡ over_denominator D q
-  product_read few = ap read_of product_is ∙ read_wide (over_denominator D q) (product_within few)
+  product_read few = ap read_of product_is ∙ read_back (over_denominator D q) (product_within few)

@@ -12,15 +12,15 @@ use Rattle.integer_pivots.specs.declared.line.Line.{Line}
 use Rattle.integer_pivots.specs.Lines.{IsLine, no_line}
 use Rattle.table_kernel.specs.declared.kernel.Kernel.{Kernel}
 use Rattle.table_kernel.specs.Kernels.{IsShaped, width_of}
-use Rattle.table_kernel.specs.ReadBack.{IsReadFrom, low_row}
+use Rattle.table_kernel.specs.ReadBack.{IsReadFrom, low_line}
 use Rattle.table_kernel.specs.Turns.{KeepsAllButLows, line_of}
 
 -- the table in fractions has a line for each variable's x - low, with the constant before the columns
-pub low_row_in : (k : Kernel) (v : ℕ) → IsShaped k → v < width_of k → v < length k.table.lines.items
-low_row_in k v s v_in = omega (arith, s.lines, s.constants, members_long k.table.costs (length k.table.rows.items), v_in)
+pub low_line_in : (k : Kernel) (v : ℕ) → IsShaped k → v < width_of k → v < length k.table.lines.items
+low_line_in k v s v_in = omega (arith, s.lines, s.constants, members_long k.table.costs (length k.table.rows.items), v_in)
 
-pub low_row_long : (k : Kernel) (v : ℕ) → IsShaped k → v < width_of k → length (low_row k.table v) ≡ suc (width_of k)
-low_row_long k v s v_in = s.wide v [] (low_row_in k v s v_in)
+pub low_line_long : (k : Kernel) (v : ℕ) → IsShaped k → v < width_of k → length (low_line k.table v) ≡ suc (width_of k)
+low_line_long k v s v_in = s.wide v [] (low_line_in k v s v_in)
 
 -- the lines before a bound are read
 pub record AreReadBefore (old new : Kernel) (bound : ℕ) : Type 0 where
@@ -28,14 +28,14 @@ pub record AreReadBefore (old new : Kernel) (bound : ℕ) : Type 0 where
   pub count : length new.lows.items ≡ width_of old
   pub each : All (λ (line : Line). length line.numbers ≡ width_of old) new.lows.items
   pub lines : (v : ℕ) → v < bound → IsLine (line_of new v)
-  pub read : (v : ℕ) → v < bound → IsReadFrom (low_row old.table v) (line_of new v)
+  pub read : (v : ℕ) → v < bound → IsReadFrom (low_line old.table v) (line_of new v)
 
--- the row that is read next
+-- the line of fractions that is read next
 pub row_at : (old mid : Kernel) (v : ℕ) (row : List Fraction) → IsShaped old → KeepsAllButLows old mid → v < width_of old →
-    row ≡ slice_index_or mid.table.lines.items v row → row ≡ low_row old.table v
+    row ≡ slice_index_or mid.table.lines.items v row → row ≡ low_line old.table v
 row_at old mid v row s keeps v_in is =
     is ∙ ap (λ (t : Table). slice_index_or t.lines.items v row) keeps.table
-    ∙ get_or_default old.table.lines.items v row [] (low_row_in old v s v_in)
+    ∙ get_or_default old.table.lines.items v row [] (low_line_in old v s v_in)
 
 -- one line more, which is put in its place
 pub one_more_read : (old mid : Kernel) (lows : Vec Line Global) (v : ℕ) (row : List Fraction) (new : Line) → IsShaped old → v < width_of old →
@@ -43,7 +43,8 @@ pub one_more_read : (old mid : Kernel) (lows : Vec Line Global) (v : ℕ) (row :
     lows.items ≡ slice_set mid.lows.items v new → AreReadBefore old (record mid { lows = lows }) (v + 1)
 one_more_read old mid lows v row new s v_in b row_is long small read put =
     let there : v < length mid.lows.items = omega (arith, b.count, v_in) in
-    let own : slice_index_or lows.items v no_line ≡ new = ap (λ (ls : List Line). slice_index_or ls v no_line) put ∙ get_or-set_same mid.lows.items v new no_line there in
+    let own : slice_index_or lows.items v no_line ≡ new = ap (λ (ls : List Line). slice_index_or ls v no_line) put ∙
+    get_or-set_same mid.lows.items v new no_line there in
     record {
       keeps = record {
         table = b.keeps.table;
@@ -60,9 +61,9 @@ one_more_read old mid lows v row new s v_in b row_is long small read put =
           (All-set (λ (line : Line). length line.numbers ≡ width_of old) mid.lows.items v new long b.each);
       lines = below_more (λ u. IsLine (slice_index_or lows.items u no_line)) v
           (λ u before. subst IsLine (sym (others u (omega (arith, before)))) (b.lines u before)) (subst IsLine (sym own) small);
-      read = below_more (λ u. IsReadFrom (low_row old.table u) (slice_index_or lows.items u no_line)) v
-          (λ u before. subst (IsReadFrom (low_row old.table u)) (sym (others u (omega (arith, before)))) (b.read u before))
-          (subst (IsReadFrom (low_row old.table v)) (sym own)
+      read = below_more (λ u. IsReadFrom (low_line old.table u) (slice_index_or lows.items u no_line)) v
+          (λ u before. subst (IsReadFrom (low_line old.table u)) (sym (others u (omega (arith, before)))) (b.read u before))
+          (subst (IsReadFrom (low_line old.table v)) (sym own)
           (subst (λ (r : List Fraction). IsReadFrom r new) (row_at old mid v row s b.keeps v_in row_is) read));
     }
   where

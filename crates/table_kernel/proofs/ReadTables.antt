@@ -10,7 +10,7 @@ use Rattle.whole_numbers.proofs.Sums.{lowest_unique}
 use Rattle.design_problem.specs.declared.form.Form.{Form}
 use Rattle.design_problem.specs.declared.tree.Member.TheVariants.{Low}
 use Rattle.design_problem.specs.Basis.{entry, member_form}
-use Rattle.fraction_rows.proofs.RowLaws.{number_at as number_there}
+use Rattle.fraction_lines.proofs.TableLineLaws.{number_at as number_there}
 use Rattle.fraction_table.specs.declared.table.Table.{Table}
 use Rattle.fraction_table.specs.Pivots.{line_at, member_at}
 use Rattle.fraction_table.specs.ValidTables.{IsTableau, members_of_box, number_of_form, numbers_of_form}

@@ -48,7 +48,8 @@ pub in_kept : (old new : Kernel) (place : ℕ) → KeepsNumbers old new → plac
 in_kept old new place keeps place_in =
     subst (λ (constants : Vec ℤ Global). place < length constants.items) (sym keeps.constants) place_in
 
-pub below_kept : (old new : Kernel) (place : ℕ) → KeepsNumbers old new → number_at old.constants.items place <ℤ pos 0 → number_at new.constants.items place <ℤ pos 0
+pub below_kept : (old new : Kernel) (place : ℕ) → KeepsNumbers old new → number_at old.constants.items place <ℤ pos 0 →
+    number_at new.constants.items place <ℤ pos 0
 below_kept old new place keeps below =
     subst (λ (constants : Vec ℤ Global). number_at constants.items place <ℤ pos 0) (sym keeps.constants) below
 

@@ -10,8 +10,8 @@ use Rattle.whole_numbers.specs.Lists.{number_at}
 use Rattle.design_problem.specs.declared.tree.Member.{Member}
 use Rattle.design_problem.specs.declared.tree.Member.TheVariants.{Low}
 use Rattle.design_problem.specs.Basis.{IsFormOf, entry, member_form}
-use Rattle.fraction_rows.specs.TableRows.{blank_row, nothing}
-use Rattle.fraction_rows.proofs.BlankRows.{blank_size}
+use Rattle.fraction_lines.specs.TableLines.{blank_line, nothing}
+use Rattle.fraction_lines.proofs.BlankLines.{blank_size}
 use Rattle.fraction_table.specs.Pivots.{member_at}
 use Rattle.fraction_table.specs.ValidTables.{HasRoom, IsTableauOf, IsTableau, members_of_box, number_of_form, numbers_of_form}
 use Rattle.fraction_table.proofs.BetweenBoxes.{all_written, length-written, written_next}
@@ -113,7 +113,7 @@ pub kernel_kept : (old new : Kernel) → KeepsAllButLinesOf old new →
 kernel_kept old new k many wide m =
     let basis = kernel_basis old m in
     basis_kernel new (shaped_kept old new k many wide m.shaped) (bounded_kept old new k m.bounded)
-    (rw k.table.costs m.whole.box) (rw (k.table.costs, k.table.rows) m.whole.fit)
+    (rw k.table.costs m.tableau.box) (rw (k.table.costs, k.table.rows) m.tableau.fit)
     (basis_kept old new k basis.0) (constants_kept old new k basis.1)
 
 pub keeps_both : (old mid new : Kernel) → KeepsAllButLinesOf old mid → KeepsAllButLinesOf mid new → KeepsAllButLinesOf old new
@@ -198,7 +198,7 @@ filled_line old new place column place_in f =
 
 pub filled_first : (old new : Kernel) (place : ℕ) → KeepsAllButLinesOf old new →
     new.table.lines.items ≡ slice_set old.table.lines.items place
-    (slice_set (blank_row (width_of old)) 0 (over_common (nat_abs old.common) (number_at old.constants.items place))) →
+    (slice_set (blank_line (width_of old)) 0 (over_common (nat_abs old.common) (number_at old.constants.items place))) →
     IsFilledTo old new place 0
 filled_first old new place keeps lines =
     let zs = numbers_of_place old place in
@@ -207,9 +207,10 @@ filled_first old new place keeps lines =
     let n = width_of old in
     record {
       lines = lines ∙ ap (slice_set old.table.lines.items place)
-          (ap (λ (m : ℕ). slice_set (blank_row m) 0 q) (sym (numbers_long old place))
-          ∙ fill_first (nat_abs old.common) z zs (blank_row (length zs)) (blank_row (length zs)) (slice_set (blank_row (length zs)) 0 q) q
-          (blank_size (length zs)) (ap blank_row (let e : length zs ≡ length (blank_row (length zs)) - 1 = omega (arith, blank_size (length zs)) in e)) refl refl);
+          (ap (λ (m : ℕ). slice_set (blank_line m) 0 q) (sym (numbers_long old place))
+          ∙ fill_first (nat_abs old.common) z zs (blank_line (length zs)) (blank_line (length zs)) (slice_set (blank_line (length zs)) 0 q) q
+          (blank_size (length zs)) (ap blank_line (let e : length zs ≡ length (blank_line (length zs)) - 1 = omega (arith, blank_size (length zs)) in e)) refl
+          refl);
       keeps = keeps;
     }
 
@@ -308,7 +309,7 @@ restated_all old place news m all lines =
 -- the table in fractions is whole
 pub restated_whole : (old new : Kernel) → IsKernel old → KeepsAllButLinesOf old new → new.table.lines.items ≡ kernel_lines old → IsTableau new.table
 restated_whole old new m k lines =
-    let w = m.whole in
+    let w = m.tableau in
     let stated_whole : IsTableauOf old.table.top old.table.costs old.table.rows.items old.table.basis.items (kernel_lines old) =
     subst (IsTableauOf old.table.top old.table.costs old.table.rows.items old.table.basis.items) (stated_lines old m.shaped) w in
     rw (k.table.top, k.table.costs, k.table.rows, k.table.basis, lines) stated_whole

@@ -50,7 +50,7 @@ keeps_kernel old new keeps m =
         constants = m.bounded.constants;
         rows = m.bounded.rows;
       };
-      whole = m.whole;
+      tableau = m.tableau;
       numbers = record { common = m.numbers.common; lows = m.numbers.lows; constants = m.numbers.constants };
     })
 

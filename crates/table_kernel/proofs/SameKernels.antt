@@ -5,7 +5,7 @@ use Rattle.std.proofs.Common.{Vec, ◌≡◌, ℕ, suc, ◌*◌, ◌^◌, ◌≤
 use Rattle.std.specs.Prelude.{ℤ, pos, ◌<ℤ◌, ◌≤ℤ◌, nat_abs, All}
 use Rattle.whole_numbers.specs.Fractions.{Fraction}
 use Rattle.design_problem.specs.declared.form.Form.{Form}
-use Rattle.design_problem.specs.declared.form.CostBox.{CostBox}
+use Rattle.design_problem.specs.declared.boxes.CostBox.{CostBox}
 use Rattle.design_problem.specs.declared.tree.Member.{Member}
 use Rattle.design_problem.specs.Boxes.{IsBox}
 use Rattle.fraction_table.specs.declared.table.Table.{Table}
@@ -16,7 +16,7 @@ use Rattle.integer_pivots.specs.Leads.{AreLeads}
 use Rattle.integer_pivots.specs.declared.line.Line.{Line}
 use Rattle.integer_pivots.specs.Lines.{IsLine, rows_of}
 use Rattle.integer_pivots.specs.Numbers.{AllWithin, weight_of}
-use Rattle.integer_pivots.specs.declared.turn.Turn.{Turn}
+use Rattle.integer_pivots.specs.declared.turned_line.Turn.{Turn}
 use Rattle.integer_pivots.proofs.UseLaws.{uses_kept}
 use Rattle.table_kernel.specs.declared.kernel.Kernel.{Kernel}
 use Rattle.table_kernel.specs.Kernels.{IsBounded, IsKernel, IsShaped, kernel_lines, lows_of, stated, width_of}
@@ -30,7 +30,8 @@ pub same_shaped : (old new : Kernel) → HoldsSame old.table new.table → Holds
 same_shaped old new t h s =
     let width : width_of new ≡ width_of old = ap (λ (costs : CostBox). length costs.low) t.costs in
     let constants = ap length h.constants in
-    let counted : length (members_of_box new.table.costs (length new.table.rows.items)) ≡ length (members_of_box old.table.costs (length old.table.rows.items)) =
+    let counted : length (members_of_box new.table.costs (length new.table.rows.items)) ≡
+    length (members_of_box old.table.costs (length old.table.rows.items)) =
     ap (λ (costs : CostBox). length (members_of_box costs (length new.table.rows.items))) t.costs
     ∙ ap (λ (rows : List Form). length (members_of_box old.table.costs (length rows))) t.rows in
     record {
@@ -65,7 +66,8 @@ same_bounded old new t h b =
       divides = subst (λ (z : ℤ). All (λ (line : Line). nat_abs line.denominator ∣ nat_abs z) new.lows.items) (sym h.common)
           (subst (λ (ls : Vec Line Global). All (λ (line : Line). nat_abs line.denominator ∣ nat_abs old.common) ls.items) (sym h.lows) b.divides);
       low = subst (λ (z : ℤ). All (λ (line : Line). nat_abs line.constant * share_of (nat_abs z) line ≤ 2 ^ 44) new.lows.items) (sym h.common)
-          (subst (λ (ls : Vec Line Global). All (λ (line : Line). nat_abs line.constant * share_of (nat_abs old.common) line ≤ 2 ^ 44) ls.items) (sym h.lows) b.low);
+          (subst (λ (ls : Vec Line Global). All (λ (line : Line). nat_abs line.constant * share_of (nat_abs old.common) line ≤ 2 ^ 44) ls.items) (sym h.lows)
+          b.low);
       rows = subst (All (λ (row : Form). weight_of row ≤ 2 ^ 16)) (sym t.rows) b.rows;
       constants = subst (AllWithin (2 ^ 62)) (sym h.constants) b.constants;
     }
@@ -80,8 +82,8 @@ kernel_same old new t h m =
     let lows : lows_of new ≡ lows_of old =
     ap (λ (z : ℤ). map (scaled_line (nat_abs z)) new.lows.items) h.common ∙ ap (λ (ls : Vec Line Global). map (scaled_line D) ls.items) h.lows in
     basis_kernel new (same_shaped old new t h m.shaped) (same_bounded old new t h m.bounded)
-    (subst (λ (box : CostBox). IsBox (length box.low) box) (sym t.costs) m.whole.box)
-    (subst (λ (box : CostBox). All (FitsBox box) new.table.rows.items) (sym t.costs) (subst (All (FitsBox costs)) (sym t.rows) m.whole.fit))
+    (subst (λ (box : CostBox). IsBox (length box.low) box) (sym t.costs) m.tableau.box)
+    (subst (λ (box : CostBox). All (FitsBox box) new.table.rows.items) (sym t.costs) (subst (All (FitsBox costs)) (sym t.rows) m.tableau.fit))
     (subst (λ (box : CostBox). AreAtBasis box new.table.rows.items new.table.basis.items (nat_abs new.common) (lows_of new)) (sym t.costs)
     (subst (λ (fs : List Form). AreAtBasis costs fs new.table.basis.items (nat_abs new.common) (lows_of new)) (sym t.rows)
     (subst (λ (ms : List Member). AreAtBasis costs rows ms (nat_abs new.common) (lows_of new)) (sym t.basis)

@@ -12,7 +12,7 @@ use Rattle.whole_numbers.proofs.Ring.{var, num, ◌⊗◌, ring}
 use Rattle.whole_numbers.specs.Fractions.{Fraction}
 use Rattle.whole_numbers.specs.Lists.{number_at}
 use Rattle.design_problem.specs.declared.form.Form.{Form}
-use Rattle.design_problem.specs.declared.form.CostBox.{CostBox}
+use Rattle.design_problem.specs.declared.boxes.CostBox.{CostBox}
 use Rattle.design_problem.specs.declared.tree.Member.{Member}
 use Rattle.design_problem.specs.declared.tree.Member.TheVariants.{Low}
 use Rattle.design_problem.specs.Forms.{value_for_costs}
@@ -73,7 +73,8 @@ first_long costs =
     ∙ ap (λ (k : ℕ). n + k) (length-map-numbers_from (λ v. pos (slice_index costs.high v) -ℤ pos (slice_index costs.low v)) 0 n)
 
 -- they are the values of the box's forms there
-values_first : (costs : CostBox) → map (λ member. value_for_costs (member_form (length costs.low) [] member) costs.low) (members_of_box costs 0) ≡ first_constants costs
+values_first : (costs : CostBox) → map (λ member. value_for_costs (member_form (length costs.low) [] member) costs.low) (members_of_box costs 0) ≡
+    first_constants costs
 values_first costs =
     let n = length costs.low in
     let at : Member → ℤ = λ member. value_for_costs (member_form n [] member) costs.low in
@@ -250,7 +251,7 @@ pub started : (k : Kernel) (costs : CostBox) (top : ℕ) →
     IsSound k.table Open → IsStarting k costs → 2 ^ 126 ≤ top → IsKernel k
 started k costs top held sound s large =
     let costs_are : k.table.costs ≡ costs = ap (λ (h : Held). h.costs) held in
-    starting_is k (subst (λ (m : ℕ). 2 ^ 126 ≤ m) (sym (ap (λ (h : Held). h.top) held)) large) (sound.whole tt) sound.room
+    starting_is k (subst (λ (m : ℕ). 2 ^ 126 ≤ m) (sym (ap (λ (h : Held). h.top) held)) large) (sound.tableau tt) sound.room
     (ap (λ (h : Held). h.rows) held)
     (ap (λ (h : Held). h.basis) held ∙ ap starting (sym costs_are))
     (subst (IsStarting k) (sym costs_are) s)

@@ -5,9 +5,9 @@ use Rattle.std.proofs.lemmas.List.{get_or-map, length-map}
 use Rattle.whole_numbers.specs.Fractions.{whole}
 use Rattle.whole_numbers.specs.Lists.{number_at}
 use Rattle.design_problem.specs.Basis.{entry}
-use Rattle.design_problem.specs.Steps.{IsStuck}
+use Rattle.design_problem.specs.Steps.{IsRefutingForm}
 use Rattle.fraction_table.specs.Pivots.{line_at}
-use Rattle.fraction_table.proofs.Refuting.{IsStuckLine}
+use Rattle.fraction_table.proofs.Refuting.{IsRefutingLine}
 use Rattle.table_kernel.specs.declared.kernel.Kernel.{Kernel}
 use Rattle.table_kernel.specs.Kernels.{IsKernel, stated, width_of}
 use Rattle.table_kernel.specs.Numbers.{number_at_column, over_common}
@@ -39,12 +39,12 @@ stated_long k m place place_in =
 pub stated_many : (k : Kernel) → IsKernel k → length (stated k).lines.items ≡ length k.constants.items
 stated_many k m = ap length (stated_lines k m.shaped) ∙ lines_many k m.shaped
 
--- a place whose form is stuck is a line that is
-pub stated_stuck : (k : Kernel) (place : ℕ) → IsKernel k → place < length k.constants.items →
-    IsStuck k.table.basis.items (line_at (stated k) place) → IsStuckLine (stated k) place
-stated_stuck k place m place_in stuck =
+-- a place whose form is a refuting one is a line that is
+pub stated_refuting : (k : Kernel) (place : ℕ) → IsKernel k → place < length k.constants.items →
+    IsRefutingForm k.table.basis.items (line_at (stated k) place) → IsRefutingLine (stated k) place
+stated_refuting k place m place_in refuting =
     record {
-      whole = m.whole;
+      tableau = m.tableau;
       line_in = subst (λ (n : ℕ). place < n) (sym (stated_many k m)) place_in;
-      stuck = stuck;
+      refuting = refuting;
     }

@@ -11,7 +11,7 @@ use Rattle.whole_numbers.proofs.FractionLaws.{cancel, over-mul, product_positive
 use Rattle.whole_numbers.proofs.Ring.{num, ◌⊖◌, ◌⊗◌, ring, ring_by, using, nothing, var}
 use Rattle.whole_numbers.proofs.Sizes.{size_positive}
 use Rattle.integer_pivots.specs.declared.line.Line.{Line}
-use Rattle.integer_pivots.specs.declared.turn.Turn.{Turn}
+use Rattle.integer_pivots.specs.declared.turned_line.Turn.{Turn}
 use Rattle.integer_pivots.specs.Lines.{IsLine}
 use Rattle.integer_pivots.specs.Numbers.{greatest_of}
 use Rattle.integer_pivots.specs.Turns.{IsTurnedLine, StaysSmall, denominator_after, turn_at, turned_number}
@@ -50,7 +50,8 @@ constant_same turn column entering old new C t some first second =
     ∙ sym (unsigned_abs-mul new.constant (old.denominator *ℤ turn.multiplier))
     ∙ ap nat_abs t.constant
     ∙ unsigned_abs-mul moved new.denominator in
-    same_over (nat_abs new.constant) (nat_abs moved) m d C (C / m) (C / d) same (div-mul_cancel m first) (div-mul_cancel d second) some (size_positive new.denominator t.positive)
+    same_over (nat_abs new.constant) (nat_abs moved) m d C (C / m) (C / d) same (div-mul_cancel m first) (div-mul_cancel d second) some
+    (size_positive new.denominator t.positive)
 
 -- a number that stays within the limit with a share that is positive is within it itself
 pub within_share : (n share : ℕ) → 0 < share → n * share ≤ 2 ^ 44 → n ≤ 2 ^ 62

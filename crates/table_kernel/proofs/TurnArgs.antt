@@ -5,7 +5,7 @@ use Rattle.std.proofs.lemmas.Int.{ints, to_z-of_z}
 use Rattle.std.proofs.lemmas.List.{get_or_default}
 use Rattle.whole_numbers.specs.Lists.{number_at}
 use Rattle.integer_pivots.specs.declared.line.Line.{Line}
-use Rattle.integer_pivots.specs.declared.turn.Turn.{Turn}
+use Rattle.integer_pivots.specs.declared.turned_line.Turn.{Turn}
 use Rattle.integer_pivots.specs.declared.lowest.Lowest.{Lowest}
 use Rattle.integer_pivots.specs.Turns.{IsAtPivot, IsLowestAfter, MayLineTurn, denominator_after, turn_at}
 use Rattle.integer_pivots.specs.Lines.{no_line}
@@ -108,7 +108,8 @@ at_pivot k column v line r is =
     }
 
 -- its turn is that of the line, as it is read
-pub turn_is_at : (k : Kernel) (column v : ℕ) (line : Line) (turn : Turn) → line ≡ line_of k v → turn ≡ turn_of_line k column v → turn ≡ turn_at k.entering column line
+pub turn_is_at : (k : Kernel) (column v : ℕ) (line : Line) (turn : Turn) → line ≡ line_of k v → turn ≡ turn_of_line k column v →
+    turn ≡ turn_at k.entering column line
 turn_is_at k column v line turn is turn_is = turn_is ∙ ap (turn_at k.entering column) (sym is)
 
 -- what holds of both as they are read

@@ -15,17 +15,14 @@ use Rattle.table_kernel.specs.Kernels.{IsKernel, stated, width_of}
 use Rattle.table_kernel.specs.Lines.{IsBestColumn, IsEntering, KeepsNumbers}
 use Rattle.table_kernel.specs.Turns.{AreTurns, HasTurned, IsPivotIn, IsReadyToTurn}
 use Rattle.table_kernel.proofs.Pivoting.{forms_kept, kernel_is, rank_rose, with_basis}
-use Rattle.table_kernel.proofs.SameButRoom.{keeps_kernel, rebuilt, same_stated}
-
--- where the entering line stays, the turns and the columns that are left alone differ
-left_alone : (k m : Kernel) → KeepsNumbers k m → m.entering ≡ k.entering → m ≡ record k { turns = m.turns; left = m.left }
-left_alone k m keeps entering = rebuilt k m keeps ∙ ap (λ (line : Line). record k { turns = m.turns; left = m.left; entering = line }) entering
+use Rattle.table_kernel.proofs.SameButRoom.{keeps_kernel, same_stated}
+use Rattle.table_kernel.proofs.Refusals.{but_columns}
 
 -- what a pivot needs stays
 pub pivot_stays : (k m : Kernel) (place column : ℕ) → KeepsNumbers k m → m.entering ≡ k.entering →
     IsPivotIn k place column → IsPivotIn m place column
 pivot_stays k m place column keeps entering p =
-    let same = sym (left_alone k m keeps entering) in
+    let same = sym (but_columns k m keeps entering) in
     let e = p.entering in
     record {
       kernel = keeps_kernel k m keeps p.kernel;

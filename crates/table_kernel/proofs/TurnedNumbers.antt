@@ -58,7 +58,8 @@ pub record AreTurnedWithin (k h : Kernel) (column : ℕ) (z : ℤ) : Type 0 wher
 
 module _ (k h : Kernel) (column : ℕ) (z : ℤ) (r : IsReadyToTurn k column) (t : AreLinesTurned k h column) (next : nat_abs z ≡ next_common k column) where
   goes_in : (v : ℕ) → v < length k.lows.items → denominator_after k.entering column (line_of k v) ∣ nat_abs z
-  goes_in v v_in = subst (λ (n : ℕ). denominator_after k.entering column (line_of k v) ∣ n) (sym next) (each_goes_in k.entering column k.lows.items (nat_abs k.common) v v_in)
+  goes_in v v_in = subst (λ (n : ℕ). denominator_after k.entering column (line_of k v) ∣ n) (sym next)
+      (each_goes_in k.entering column k.lows.items (nat_abs k.common) v v_in)
 
   new_goes_in : (v : ℕ) → v < length k.lows.items → nat_abs (line_of h v).denominator ∣ nat_abs z
   new_goes_in v v_in = dvd_trans _ (t.divides v v_in) (goes_in v v_in)
@@ -133,7 +134,8 @@ module _ (k h : Kernel) (column : ℕ) (leads : Vec ℕ Global) (z : ℤ) (t : A
 
   -- and its numbers are within the bounds
   pub bounded_after : IsBounded k → IsBounded (with_leads h leads z)
-  bounded_after b = bounded_with k h leads z t.keeps b.top b.constants b.rows t.bounded.positive t.bounded.small t.bounded.lines t.bounded.divides t.bounded.limit
+  bounded_after b = bounded_with k h leads z t.keeps b.top b.constants b.rows t.bounded.positive t.bounded.small t.bounded.lines t.bounded.divides
+      t.bounded.limit
 
   -- then the constants are put
   pub has_turned : (n : Kernel) → length leads.items ≡ length k.leads.items →
@@ -206,6 +208,6 @@ pub may_put_after : (k h : Kernel) (column : ℕ) (leads : Vec ℕ Global) (z : 
 may_put_after k h column leads z t m put = record {
   shaped = shaped_after k h column leads z t m.shaped put.0 (put.1 m.shaped.lead);
   bounded = bounded_after k h column leads z t m.bounded;
-  fit = subst (λ (u : Table). All (FitsBox u.costs) u.rows.items) (sym t.keeps.table) m.whole.fit;
-  high = subst (λ (u : Table). length u.costs.high ≡ length u.costs.low) (sym t.keeps.table) m.whole.unboxed.high_count;
+  fit = subst (λ (u : Table). All (FitsBox u.costs) u.rows.items) (sym t.keeps.table) m.tableau.fit;
+  high = subst (λ (u : Table). length u.costs.high ≡ length u.costs.low) (sym t.keeps.table) m.tableau.unboxed.high_count;
 }

@@ -12,7 +12,7 @@ use Rattle.whole_numbers.proofs.Sizes.{size_positive}
 use Rattle.whole_numbers.specs.Lists.{number_at}
 use Rattle.fraction_table.specs.declared.table.Table.{Table}
 use Rattle.integer_pivots.specs.declared.line.Line.{Line}
-use Rattle.integer_pivots.specs.declared.turn.Turn.{Turn}
+use Rattle.integer_pivots.specs.declared.turned_line.Turn.{Turn}
 use Rattle.integer_pivots.specs.Lines.{IsLine, no_line}
 use Rattle.integer_pivots.specs.Turns.{IsTurnedLine, MayLineTurn, denominator_after, turn_at}
 use Rattle.table_kernel.specs.declared.kernel.Kernel.{Kernel}

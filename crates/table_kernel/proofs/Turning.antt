@@ -14,7 +14,7 @@ use Rattle.whole_numbers.proofs.Divisors.{gcd_is}
 use Rattle.whole_numbers.proofs.FractionLaws.{cancel, over-mul}
 use Rattle.whole_numbers.proofs.Ring.{var, num, neg, ◌⊕◌, ◌⊖◌, ◌⊗◌, ring, ring_by, using, nothing}
 use Rattle.design_problem.specs.declared.form.Form.{Form}
-use Rattle.design_problem.specs.declared.form.CostBox.{CostBox}
+use Rattle.design_problem.specs.declared.boxes.CostBox.{CostBox}
 use Rattle.design_problem.specs.declared.tree.Member.{Member}
 use Rattle.design_problem.specs.Basis.{IsFormOf, IsMixture, LeadsPositive, forms_of, member_form}
 use Rattle.design_problem.specs.Forms.{no_form}
@@ -33,6 +33,7 @@ use Rattle.integer_pivots.specs.Lines.{no_line}
 use Rattle.integer_pivots.specs.Turns.{IsTurnedLine, turn_at, turn_by, turned_number}
 use Rattle.integer_pivots.proofs.TurnLaws.{turn_positive}
 use Rattle.integer_pivots.proofs.ShareLaws.{share_exact}
+use Rattle.integer_pivots.proofs.LowestTurns.{factor_out}
 use Rattle.table_kernel.specs.Bases.{AreAtBasis}
 use Rattle.table_kernel.specs.Numbers.{scaled_line, share_of}
 use Rattle.table_kernel.proofs.AtBasis.{number_scaled, scaled_by}
@@ -93,11 +94,6 @@ basis_turned costs rows basis D lows entering j a b p =
           (λ k k_in other. b.elsewhere j (suc k) p.j_in (omega (arith, k_in)) (λ h. other (suc_inj h))) p.least b.lead;
     }
 
--- a positive factor is left out on both sides
-cancel_positive : (g a b : ℤ) → pos 0 <ℤ g → (a *ℤ g) ≡ (b *ℤ g) → a ≡ b
-cancel_positive (pos n) a b high same = cancel n a b (omega (arith, ints, high)) same
-cancel_positive (negsuc n) a b high same = absurd (omega (arith, ints, high))
-
 -- The number y of a line at the pivot's column, and its turn by the pivot u there: both times the same come to one.
 turn_even : (y u : ℤ) → ((turn_by y u).multiplier *ℤ y) ≡ ((turn_by y u).factor *ℤ u)
 turn_even y u =
@@ -109,8 +105,8 @@ turn_even y u =
     ∙ ring (m ∷ q ∷ pos g ∷ []) (var 0 ⊗ (var 1 ⊗ var 2)) (var 1 ⊗ (var 0 ⊗ var 2)) refl
     ∙ ap (λ z. q *ℤ z) (over-mul u g (div-mul_cancel g divides.1))
 
--- A line's number x over d, and y at the pivot's column; the entering line's t and u over f; s and r are how often d and
--- the new line's e go into D and L. The number after the turn over L is that of the turned row over D and A.
+-- A line's number x over d, and y at the pivot's column; the entering line's t and u over f; s and r are how often d
+-- and the new line's e go into D and L. The number after the turn over L is that of the turned line over D and A.
 number_crossed : (d m f s r e x y t u T A q new : ℤ) → pos 0 <ℤ d → pos 0 <ℤ m → pos 0 <ℤ f →
     (t *ℤ (s *ℤ d)) ≡ (T *ℤ f) → (u *ℤ (s *ℤ d)) ≡ (A *ℤ f) → (m *ℤ y) ≡ (q *ℤ u) →
     (new *ℤ (d *ℤ m)) ≡ (((m *ℤ x) -ℤ (q *ℤ t)) *ℤ e) →
@@ -118,9 +114,9 @@ number_crossed : (d m f s r e x y t u T A q new : ℤ) → pos 0 <ℤ d → pos 
 number_crossed d m f s r e x y t u T A q new d_positive m_positive f_positive at_t at_u even is =
     let left = (new *ℤ r) *ℤ ((s *ℤ d) *ℤ A) in
     let right = (((x *ℤ s) *ℤ A) -ℤ ((y *ℤ s) *ℤ T)) *ℤ (r *ℤ e) in
-    cancel_positive d left right d_positive
-    (cancel_positive m (left *ℤ d) (right *ℤ d) m_positive
-    (cancel_positive f ((left *ℤ d) *ℤ m) ((right *ℤ d) *ℤ m) f_positive
+    factor_out left right d d_positive
+    (factor_out (left *ℤ d) (right *ℤ d) m m_positive
+    (factor_out ((left *ℤ d) *ℤ m) ((right *ℤ d) *ℤ m) f f_positive
     (ring_by (d ∷ m ∷ f ∷ s ∷ r ∷ e ∷ x ∷ y ∷ t ∷ u ∷ T ∷ A ∷ q ∷ new ∷ [])
     (((((var 13 ⊗ var 4) ⊗ ((var 3 ⊗ var 0) ⊗ var 11)) ⊗ var 0) ⊗ var 1) ⊗ var 2)
     ((((((var 6 ⊗ var 3) ⊗ var 11) ⊖ ((var 7 ⊗ var 3) ⊗ var 10)) ⊗ (var 4 ⊗ var 5) ⊗ var 0) ⊗ var 1) ⊗ var 2)
@@ -140,8 +136,8 @@ own_crossed : (d m f s r e y u A q new : ℤ) → pos 0 <ℤ d → pos 0 <ℤ m 
 own_crossed d m f s r e y u A q new d_positive m_positive at_u even is =
     let left = (new *ℤ r) *ℤ ((s *ℤ d) *ℤ A) in
     let right = ((y *ℤ s) *ℤ (s *ℤ d)) *ℤ (r *ℤ e) in
-    cancel_positive d left right d_positive
-    (cancel_positive m (left *ℤ d) (right *ℤ d) m_positive
+    factor_out left right d d_positive
+    (factor_out (left *ℤ d) (right *ℤ d) m m_positive
     (ring_by (d ∷ m ∷ f ∷ s ∷ r ∷ e ∷ y ∷ u ∷ A ∷ q ∷ new ∷ [])
     ((((var 10 ⊗ var 4) ⊗ ((var 3 ⊗ var 0) ⊗ var 8)) ⊗ var 0) ⊗ var 1)
     (((((var 6 ⊗ var 3) ⊗ (var 3 ⊗ var 0)) ⊗ (var 4 ⊗ var 5)) ⊗ var 0) ⊗ var 1)
@@ -179,7 +175,7 @@ line_turned j entering old new long t zero place_in other = t.constant
 line_turned j entering old new long t (suc c) place_in other =
     t.others c (omega (arith, long, place_in)) (λ same. other (ap suc same))
 
--- a number of a turned line over L is that of the turned row over D and a
+-- a number of a turned line over L is that of the line over D and a, turned
 place_crossed : (D L a j : ℕ) (ts : List ℤ) (entering old new : Line) → EntersAt D a j ts entering →
     IsTurnedOver D L j entering old new → (place : ℕ) → place < length ts →
     ((line_number new place *ℤ pos (share_of L new)) *ℤ pos (D * a))
@@ -315,7 +311,8 @@ column_up g place (row ∷ rows) =
 head_same : (x y : ℤ) (xs ys : List ℤ) → (x ∷ xs) ≡ (y ∷ ys) → (x ≡ y) × (xs ≡ ys)
 head_same x y xs ys same = (cc, cc)
 
--- The constants rise where those over D and a, times L, are the turned ones, by a negative number b of the entering form.
+-- The constants rise where those over D and a, times L, are the turned ones, by a negative number b of the entering
+-- form.
 pub rise_from : (D L a u : ℕ) (b : ℤ) (news olds ys : List ℤ) → 0 < D → 0 < L → 0 < a → 0 < u → (b +ℤ pos u) ≡ pos 0 →
     map (λ z. z *ℤ pos (D * a)) news ≡ map (λ z. z *ℤ pos L) (turned_column a olds b ys) → length olds ≡ length ys →
     length news ≡ length olds → LeadsPositive ys → LeadsPositive (rise D L (map (λ z. z *ℤ pos D) news) olds)

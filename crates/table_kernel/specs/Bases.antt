@@ -2,7 +2,7 @@
 use Rattle.std.specs.Prelude.{◌≡◌, ◌≢◌, ℕ, suc, ◌<◌, ◌≤◌, List, ℤ, pos, map, length, slice_index_or, All}
 use Rattle.whole_numbers.specs.Lists.{number_at}
 use Rattle.design_problem.specs.declared.form.Form.{Form}
-use Rattle.design_problem.specs.declared.form.CostBox.{CostBox}
+use Rattle.design_problem.specs.declared.boxes.CostBox.{CostBox}
 use Rattle.design_problem.specs.declared.tree.Member.{Member}
 use Rattle.design_problem.specs.Basis.{IsFormOf, LeadsPositive, forms_of}
 use Rattle.design_problem.specs.Forms.{no_form}

@@ -12,8 +12,8 @@ abbrev pub ComesFirst : List (List ℤ) → List ℤ → ℕ → ℕ → Type 0
 ComesFirst rows line first second =
     LeadsNoNegative (turned_column (nat_abs (number_at line first)) (numbers_in_column second rows) (number_at line second) (numbers_in_column first rows))
 
--- columns in which a line is positive, of which the first so many variables' rows tell none apart; each other column in
--- which it is positive comes behind them
+-- columns in which a line is positive, of which the first so many variables' lines tell none apart; each other column
+-- in which it is positive comes behind them
 pub record AreColumnsLeft (rows : List (List ℤ)) (line : List ℤ) (count : ℕ) (left : List ℕ) : Type 0 where
   pub each : (c : ℕ) → Has left c → IsPositiveAt line c
   pub level : (c d u : ℕ) → Has left c → Has left d → u < count → crosswise (slice_index_or rows u []) line c d ≡ crosswise (slice_index_or rows u []) line d c

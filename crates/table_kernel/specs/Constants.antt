@@ -2,7 +2,7 @@
 use Rattle.std.specs.Prelude.{◌≡◌, ℕ, ◌+◌, ◌*◌, ◌^◌, ◌<◌, ◌≤◌, List, ℤ, pos, ◌-ℤ◌, ◌*ℤ◌, ◌<ℤ◌, nat_abs, length, slice_index, slice_index_or, All}
 use Prim.Native.Nat.{◌∣◌}
 use Rattle.whole_numbers.specs.Lists.{number_at}
-use Rattle.design_problem.specs.declared.form.CostBox.{CostBox}
+use Rattle.design_problem.specs.declared.boxes.CostBox.{CostBox}
 use Rattle.design_problem.specs.declared.form.Form.{Form}
 use Rattle.design_problem.specs.declared.tree.Member.TheVariants.{Low}
 use Rattle.design_problem.specs.Basis.{member_form}
@@ -57,8 +57,8 @@ pub record KeepsAllButConstants (old new : Kernel) : Type 0 where
   pub left : new.left ≡ old.left
   pub entering : new.entering ≡ old.entering
 
--- The constants of the other forms are what those of x - low, which stand first, make of them: that of high - x for each
--- variable, and those of the rows.
+-- The constants of the other forms are what those of x - low, which stand first, make of them: that of high - x for
+-- each variable, and those of the rows.
 pub record AreByFirst (k : Kernel) (constants : List ℤ) : Type 0 where
   pub count : length constants ≡ length k.constants.items
   pub high : (v : ℕ) → v < width_of k →

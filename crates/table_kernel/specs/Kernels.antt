@@ -55,9 +55,9 @@ pub record IsShaped (k : Kernel) : Type 0 where
   pub lines : length k.table.lines.items ≡ length k.constants.items
   pub wide : All (λ line. length line ≡ suc (width_of k)) k.table.lines.items
 
--- How large the numbers of a kernel are: those of lines and all denominators at most 2^30; the constants of x - low over
--- the common denominator, of which all others are divisors, at most 2^44, and those of all forms at most 2^62; a row's
--- coefficients together at most 2^16.
+-- How large the numbers of a kernel are: those of lines and all denominators at most 2^30; the constants of x - low
+-- over the common denominator, of which all others are divisors, at most 2^44, and those of all forms at most 2^62; a
+-- row's coefficients together at most 2^16.
 pub record IsBounded (k : Kernel) : Type 0 where
   pub top : 2 ^ 126 ≤ k.table.top
   pub positive : pos 0 <ℤ k.common
@@ -86,5 +86,5 @@ pub record IsMoving (k : Kernel) : Type 0 where
 pub record IsKernel (k : Kernel) : Type 0 where
   pub shaped : IsShaped k
   pub bounded : IsBounded k
-  pub whole : IsTableau (stated k)
-  pub numbers : AreKernelNumbers k whole.unboxed
+  pub tableau : IsTableau (stated k)
+  pub numbers : AreKernelNumbers k tableau.unboxed

@@ -56,7 +56,8 @@ factors_of D [] lines = 0
 factors_of D (c ∷ cs) [] = 0
 factors_of D (c ∷ cs) (line ∷ lines) = nat_abs c * share_of D line + factors_of D cs lines
 
--- The line of a place's form passes the kernel's bounds: the factors of which it is made, or its numbers in lowest terms.
+-- The line of a place's form passes the kernel's bounds: the factors of which it is made, or its numbers in lowest
+-- terms.
 pub data IsLineTooLarge (k : Kernel) (place : ℕ) : Type 0 where
   factors : 2 ^ 32 < factors_of (nat_abs k.common) (form_of_place k place).coefficients k.lows.items → IsLineTooLarge k place
   numbers : (line : Line) → StandsForPlace k place line → IsInLowestTerms line → (AllWithin (2 ^ 30) line.numbers → ⊥) → IsLineTooLarge k place
@@ -64,7 +65,8 @@ pub data IsLineTooLarge (k : Kernel) (place : ℕ) : Type 0 where
 -- the first column, over its positive number in the entering line, doesn't come after the second one over its own
 abbrev pub IsNotAfterInKernel : Kernel → ℕ → ℕ → Type 0
 IsNotAfterInKernel k first second =
-    LeadsNoNegative (turned_column (nat_abs (number_at k.entering.numbers first)) (column_of k second) (number_at k.entering.numbers second) (column_of k first))
+    LeadsNoNegative (turned_column (nat_abs (number_at k.entering.numbers first)) (column_of k second) (number_at k.entering.numbers second)
+    (column_of k first))
 
 -- a best of the columns in which the entering line is positive; none where it is positive in none
 abbrev pub IsBestColumn : Kernel → Option ℕ → Type 0

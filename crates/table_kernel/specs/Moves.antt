@@ -1,7 +1,7 @@
 -- What a bound that moves makes of a kernel, and how far bounds may move.
 use Rattle.std.specs.Prelude.{◌≡◌, ℕ, ◌+◌, ◌*◌, ◌^◌, ◌<◌, ◌≤◌, List, [], ◌∷◌, ℤ, pos, ◌+ℤ◌, ◌-ℤ◌, ◌*ℤ◌, nat_abs, Option, None, Some, map, length, slice_index_or, slice_set}
 use Rattle.whole_numbers.specs.Lists.{number_at}
-use Rattle.design_problem.specs.declared.form.CostBox.{CostBox}
+use Rattle.design_problem.specs.declared.boxes.CostBox.{CostBox}
 use Rattle.design_problem.specs.declared.tree.Member.{Member}
 use Rattle.fraction_table.specs.Moves.{IsColumnOf, put_at}
 use Rattle.integer_pivots.specs.declared.line.Line.{Line}
@@ -18,8 +18,8 @@ abbrev pub raised_kernel_line : ℕ → ℤ → Line → Line
 raised_kernel_line column fall line = with_constant line (line.constant +ℤ (fall *ℤ number_at line.numbers column))
 
 -- The lines of x - low after the form x - low of a variable fell: its own constant is less by that many times its
--- denominator, where the form isn't in the basis; else each other rises by its number at that column times the fall, and
--- its own is 0.
+-- denominator, where the form isn't in the basis; else each other rises by its number at that column times the fall,
+-- and its own is 0.
 abbrev pub lines_after_low : List Line → Option ℕ → ℕ → ℤ → List Line
 lines_after_low lines None var fall =
     slice_set lines var (with_constant (slice_index_or lines var no_line)
@@ -27,8 +27,8 @@ lines_after_low lines None var fall =
 lines_after_low lines (Some column) var fall =
     slice_set (map (raised_kernel_line column fall) lines) var (with_constant (slice_index_or lines var no_line) (pos 0))
 
--- The lines of x - low after the form high - x of a variable fell: they stay where the form isn't in the basis; else each
--- rises by its number at that column times the fall.
+-- The lines of x - low after the form high - x of a variable fell: they stay where the form isn't in the basis; else
+-- each rises by its number at that column times the fall.
 abbrev pub lines_after_high : List Line → Option ℕ → ℤ → List Line
 lines_after_high lines None fall = lines
 lines_after_high lines (Some column) fall = map (raised_kernel_line column fall) lines

@@ -2,7 +2,7 @@
 use Rattle.std.specs.Prelude.{ℕ, ◌/◌, List, ◌∷◌, ℤ, pos, ◌*ℤ◌, nat_abs, map, length}
 use Rattle.whole_numbers.specs.Fractions.{Fraction, reduced}
 use Rattle.design_problem.specs.declared.form.Form.{Form}
-use Rattle.design_problem.specs.declared.form.CostBox.{CostBox}
+use Rattle.design_problem.specs.declared.boxes.CostBox.{CostBox}
 use Rattle.design_problem.specs.declared.tree.Member.{Member}
 use Rattle.design_problem.specs.Basis.{member_form}
 use Rattle.fraction_table.specs.ValidTables.{members_of_box, numbers_of_form}

@@ -11,54 +11,54 @@ use Rattle.table_kernel.specs.declared.kernel.Kernel.{Kernel}
 use Rattle.table_kernel.specs.Kernels.{IsShaped}
 use Rattle.table_kernel.specs.Rows.{IsCovered}
 
--- the denominators of a row's fractions go into this number
+-- the denominators of a line's fractions go into this number
 abbrev pub AllGoInto : List Fraction → ℕ → Type 0
-AllGoInto row D = (place : ℕ) → place < length row → (entry row place).denominator ∣ D
+AllGoInto fractions D = (place : ℕ) → place < length fractions → (entry fractions place).denominator ∣ D
 
--- the least common denominator of a row's fractions, which is at most 2^30
-pub record IsLeastDenominator (row : List Fraction) (d : ℤ) : Type 0 where
+-- the least common denominator of a line's fractions, which is at most 2^30
+pub record IsLeastDenominator (fractions : List Fraction) (d : ℤ) : Type 0 where
   pub positive : pos 0 <ℤ d
   pub small : d ≤ℤ pos (2 ^ 30)
-  pub common : AllGoInto row (nat_abs d)
-  pub least : (D : ℕ) → AllGoInto row D → nat_abs d ∣ D
+  pub common : AllGoInto fractions (nat_abs d)
+  pub least : (D : ℕ) → AllGoInto fractions D → nat_abs d ∣ D
 
 -- a fraction's number over a multiple of its denominator
 abbrev pub over_denominator : ℕ → Fraction → ℤ
 over_denominator D q = q.numerator *ℤ pos (D / q.denominator)
 
--- the line has the numbers of a row of fractions, over their least common denominator
-pub record IsReadFrom (row : List Fraction) (line : Line) : Type 0 where
-  pub least : IsLeastDenominator row line.denominator
-  pub count : length row ≡ suc (length line.numbers)
-  pub constant : line.constant ≡ over_denominator (nat_abs line.denominator) (entry row 0)
-  pub numbers : (c : ℕ) → c < length line.numbers → number_at line.numbers c ≡ over_denominator (nat_abs line.denominator) (entry row (suc c))
+-- the line has the numbers of a line of fractions, over their least common denominator
+pub record IsReadFrom (fractions : List Fraction) (line : Line) : Type 0 where
+  pub least : IsLeastDenominator fractions line.denominator
+  pub count : length fractions ≡ suc (length line.numbers)
+  pub constant : line.constant ≡ over_denominator (nat_abs line.denominator) (entry fractions 0)
+  pub numbers : (c : ℕ) → c < length line.numbers → number_at line.numbers c ≡ over_denominator (nat_abs line.denominator) (entry fractions (suc c))
 
--- over this denominator a row of fractions is within a kernel's bounds for a line
-pub record FitsOver (D : ℕ) (row : List Fraction) : Type 0 where
+-- over this denominator a line of fractions is within a kernel's bounds for a line
+pub record FitsOver (D : ℕ) (fractions : List Fraction) : Type 0 where
   pub positive : 0 < D
   pub small : D ≤ 2 ^ 30
-  pub common : AllGoInto row D
-  pub constant : nat_abs (over_denominator D (entry row 0)) ≤ 2 ^ 44
-  pub numbers : (c : ℕ) → suc c < length row → nat_abs (over_denominator D (entry row (suc c))) ≤ 2 ^ 30
+  pub common : AllGoInto fractions D
+  pub constant : nat_abs (over_denominator D (entry fractions 0)) ≤ 2 ^ 44
+  pub numbers : (c : ℕ) → suc c < length fractions → nat_abs (over_denominator D (entry fractions (suc c))) ≤ 2 ^ 30
 
--- the row of x - low for a variable
-abbrev pub low_row : Table → ℕ → List Fraction
-low_row t var = slice_index_or t.lines.items var []
+-- the line of x - low for a variable
+abbrev pub low_line : Table → ℕ → List Fraction
+low_line t var = slice_index_or t.lines.items var []
 
--- The kernel's bounds cover a table in fractions: each row's coefficients; over some denominator each row of x - low; and
--- over a common one their constants.
+-- The kernel's bounds cover a table in fractions: each row's coefficients; over some denominator each line of x - low;
+-- and over a common one their constants.
 pub record MayReadBack (t : Table) : Type 0 where
   pub rows : All IsCovered t.rows.items
   pub denominator : ℕ → ℕ
-  pub lines : (var : ℕ) → var < length t.costs.low → FitsOver (denominator var) (low_row t var)
+  pub lines : (var : ℕ) → var < length t.costs.low → FitsOver (denominator var) (low_line t var)
   pub common : ℕ
   pub positive : 0 < common
   pub small : common ≤ 2 ^ 30
   pub divides : (var : ℕ) → var < length t.costs.low → denominator var ∣ common
-  pub constants : (var : ℕ) → var < length t.costs.low → nat_abs (over_denominator common (entry (low_row t var) 0)) ≤ 2 ^ 44
+  pub constants : (var : ℕ) → var < length t.costs.low → nat_abs (over_denominator common (entry (low_line t var) 0)) ≤ 2 ^ 44
 
--- What a kernel keeps while its table goes on in fractions: how long its lists are, where its columns lead, and how large
--- its constants are.
+-- What a kernel keeps while its table goes on in fractions: how long its lists are, where its columns lead, and how
+-- large its constants are.
 pub record IsParked (k : Kernel) : Type 0 where
   pub shaped : IsShaped k
   pub constants : AllWithin (2 ^ 62) k.constants.items

@@ -2,8 +2,8 @@
 use Rattle.std.specs.Prelude.{◌≡◌, ℕ, ◌^◌, ◌<◌, ◌≤◌, List, ℤ, ◌+ℤ◌, ◌*ℤ◌, vec_capacity, vec_len}
 use Rattle.design_problem.specs.declared.form.Form.{Form}
 use Rattle.design_problem.specs.Forms.{value_for_costs}
-use Rattle.fraction_table.specs.declared.add_row.BlankRow.{BlankRow}
-use Rattle.fraction_table.specs.RowLines.{HasPlace, IsBlankRow}
+use Rattle.fraction_table.specs.declared.add_row.BlankLine.{BlankLine}
+use Rattle.fraction_table.specs.RowLines.{HasPlace, IsBlankLine}
 use Rattle.integer_pivots.specs.Numbers.{product_sum, weight_of}
 use Rattle.integer_pivots.specs.Uses.{HaveRoom, uses_in}
 use Rattle.table_kernel.specs.declared.kernel.Kernel.{Kernel}
@@ -34,6 +34,6 @@ pub record HasRowPlace (k : Kernel) : Type 0 where
   pub uses : HaveRoom k.uses.items
 
 -- a row that fits the kernel's box, with a line of zeros; and there is a place for it
-pub record MayAddRow (k : Kernel) (row : BlankRow) : Type 0 where
+pub record MayAddRow (k : Kernel) (row : BlankLine) : Type 0 where
   pub place : HasRowPlace k
-  pub blank : IsBlankRow k.table.costs row.form row.line
+  pub blank : IsBlankLine k.table.costs row.form row.line

@@ -4,7 +4,7 @@ use Prim.Native.Nat.{◌∣◌}
 use Rattle.whole_numbers.specs.Lists.{number_at}
 use Rattle.integer_pivots.specs.declared.line.Line.{Line}
 use Rattle.integer_pivots.specs.declared.lowest.Lowest.{Lowest}
-use Rattle.integer_pivots.specs.declared.turn.Turn.{Turn}
+use Rattle.integer_pivots.specs.declared.turned_line.Turn.{Turn}
 use Rattle.integer_pivots.specs.Leads.{AreLeads}
 use Rattle.integer_pivots.specs.Lines.{IsLine, no_line, rows_of}
 use Rattle.integer_pivots.specs.Numbers.{AllWithin}
@@ -30,7 +30,8 @@ next_common k column = common_after k.entering column k.lows.items (nat_abs k.co
 -- the size of the constant of x - low for a variable after a pivot, over a common denominator
 abbrev pub constant_size : Kernel → ℕ → ℕ → ℕ → ℕ
 constant_size k column common var =
-    nat_abs (turned_number (turn_of_line k column var) (line_of k var).constant k.entering.constant) * (common / denominator_after k.entering column (line_of k var))
+    nat_abs (turned_number (turn_of_line k column var) (line_of k var).constant k.entering.constant) *
+    (common / denominator_after k.entering column (line_of k var))
 
 -- all lines of x - low stay small in a turn at a column
 abbrev pub LinesStaySmall : Kernel → ℕ → Type 0
@@ -77,7 +78,8 @@ pub record IsRefusedAt (k : Kernel) (place : ℕ) : Type 0 where
   pub best : IsBestColumn k (Some column)
   pub refused : MayTurn k column → ⊥
 
--- the kernel's bounds don't cover the pivot that is due: the line of the pivot form is too large, or a number of the turn
+-- the kernel's bounds don't cover the pivot that is due: the line of the pivot form is too large, or a number of the
+-- turn
 pub record IsHeldUp (k : Kernel) : Type 0 where
   pub place : ℕ
   pub due : IsPivotPlace k place
@@ -134,8 +136,8 @@ pub record KeepsAllButLows (old new : Kernel) : Type 0 where
   pub left : new.left ≡ old.left
   pub entering : new.entering ≡ old.entering
 
--- a variable's line has turned at a column: it is small, its denominator goes into the common one after the pivot, and it
--- stands for the turned numbers; where it has no number at the column, it is as before, and so are the others
+-- a variable's line has turned at a column: it is small, its denominator goes into the common one after the pivot, and
+-- it stands for the turned numbers; where it has no number at the column, it is as before, and so are the others
 pub record IsLineTurned (old new : Kernel) (column var : ℕ) : Type 0 where
   pub count : length new.lows.items ≡ length old.lows.items
   pub line : IsLine (line_of new var)

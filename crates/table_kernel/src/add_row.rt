@@ -1,6 +1,6 @@
 //! One more row: its form, and its constant at the present basis.
 ghost use Rattle.std.specs.Prelude.{◌≡◌, ◌^◌, ◌<◌, ◌≤◌, ◌↔◌, pos, ◌∷◌, [], ◌++◌, nat_abs, length, All, IfErr, IfOk, IsTrue, OnOk};
-ghost use Rattle.fraction_rows.specs.TableRows.{blank_row};
+ghost use Rattle.fraction_lines.specs.TableLines.{blank_line};
 ghost use Rattle.design_problem.specs.Steps.{IsStepTooWide};
 ghost use Rattle.fraction_table.specs.RowLines.{HoldsRow, HoldsSame};
 ghost use Rattle.fraction_table.specs.Tableaus.{FitsBox, wide_at};
@@ -15,7 +15,7 @@ use crate::Kernel;
 use crate::constants::row_constant;
 use cost_base::OutOfMemory;
 use design_problem::Form;
-use fraction_table::BlankRow;
+use fraction_table::BlankLine;
 use integer_pivots::{WEIGHT_LIMIT, push_uses, reserve_uses, within};
 use std::alloc::Global;
 use wide_fraction::Wide;
@@ -39,7 +39,7 @@ impl Kernel {
     /// # Errors
     ///
     /// `OutOfMemory` where something got no memory. Then the kernel holds what it held.
-    pub fn make_room(&mut self, alloc: Global, form: &Form) -> Result<BlankRow, OutOfMemory>
+    pub fn make_room(&mut self, alloc: Global, form: &Form) -> Result<BlankLine, OutOfMemory>
         // In any case the kernel holds the same, at work in whole numbers or parked.
         requires few { length self.old.table.costs.low < 2 ^ 32 }
         ensures same { HoldsSame self.old.table self.new.table }
@@ -51,7 +51,7 @@ impl Kernel {
         ensures place { OnOk result (HasRowPlace self.new) }
         ensures form { IfOk result (λ row. row.form ≡ form.now) }
         ensures blank { IfOk result
-            (λ row. row.line ≡ blank_row (length self.old.table.costs.low)) }
+            (λ row. row.line ≡ blank_line (length self.old.table.costs.low)) }
     {
         if self.constants.reserve(1).is_err() {
             return Err(OutOfMemory);
@@ -70,7 +70,7 @@ impl Kernel {
     }
 
     /// Adds a row for which there is room, and which is covered.
-    pub fn put_row(&mut self, row: BlankRow)
+    pub fn put_row(&mut self, row: BlankLine)
         requires kernel { IsKernel self.old }
         requires row { MayAddRow self.old row }
         requires covered { IsCovered row.form }
@@ -102,10 +102,10 @@ impl Kernel {
     /// # Errors
     ///
     /// `Wide` where a step of the row's line makes a whole number that passes the top. The row was added nevertheless.
-    pub fn park_row(&mut self, row: BlankRow) -> Result<(), Wide>
+    pub fn park_row(&mut self, row: BlankLine) -> Result<(), Wide>
         // The kernel is parked, its table's lines are those at the basis, and there's a place for the row.
         requires parked { IsParked self.old }
-        requires whole { IsTableau self.old.table }
+        requires tableau { IsTableau self.old.table }
         requires row { MayAddRow self.old row }
 
         // The row is added in any case, and the table has room for pivots.
@@ -113,7 +113,7 @@ impl Kernel {
         ensures room { HasRoom self.new.table }
 
         // On Ok the table's lines are those at the basis, and the kernel's lists have grown with it.
-        ensures whole { OnOk result (IsTableau self.new.table) }
+        ensures tableau { OnOk result (IsTableau self.new.table) }
         ensures parked { OnOk result (IsParked self.new) }
 
         // On Err a step at the basis is too wide.

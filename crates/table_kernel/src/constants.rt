@@ -17,6 +17,8 @@ use fraction_table::{corner_value, range_of};
 use integer_pivots::{Line, put_uses};
 
 /// A coefficient times a constant.
+///
+/// For the prover: a call, so that the bounds of both, and nothing else of the caller's, show that the product fits.
 fn constant_term(coefficient: i64, constant: i64) -> i64
     requires coefficient { nat_abs coefficient ≤ 2 ^ 16 }
     requires constant { nat_abs constant ≤ 2 ^ 44 }

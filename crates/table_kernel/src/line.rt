@@ -21,6 +21,8 @@ use integer_pivots::{
 };
 
 /// A term's factor times a number, both of which are small.
+///
+/// For the prover: a call, so that the bounds of both, and nothing else of the caller's, show that the product fits.
 fn product_of(factor: i64, number: i128) -> i128
     requires factor { nat_abs factor ≤ 2 ^ 30 }
     requires number { nat_abs number ≤ 2 ^ 60 }

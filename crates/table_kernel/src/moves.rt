@@ -1,7 +1,7 @@
 //! The move of the kernel to another box, bound by bound.
 ghost use Rattle.std.specs.Prelude.{◌≡◌, ℕ, ◌^◌, ◌+◌, ◌*◌, ◌<◌, ◌≤◌, ◌↔◌, pos, ◌-ℤ◌, ◌≤ℤ◌, nat_abs, length, map, slice_index, All, IsTrue, Option, OnErr, OnOk};
 ghost use Rattle.design_problem.specs.Boxes.{IsBox, with_high, with_low};
-ghost use Rattle.fraction_table.specs.Moves.{IsMoved, KeepsTableRows};
+ghost use Rattle.fraction_table.specs.Moves.{IsMoved, KeepsTableLines};
 ghost use Rattle.fraction_table.specs.Tableaus.{FitsBox};
 ghost use Rattle.integer_pivots.specs.Lines.{IsLine};
 ghost use Rattle.table_kernel.specs.Kernels.{IsKernel, IsMoving, stated, width_of};
@@ -188,7 +188,7 @@ impl Kernel {
 
         // In any case it's a kernel of the same rows, and on Ok one of the new box.
         ensures kernel { IsKernel self.new }
-        ensures keeps { KeepsTableRows (stated self.old) (stated self.new) }
+        ensures keeps { KeepsTableLines (stated self.old) (stated self.new) }
         ensures moved { OnOk result (IsMoved (stated self.old) costs.now (stated self.new)) }
 
         // On Err it's as before, since some constant might pass its limit on that way.

@@ -1,7 +1,7 @@
 //! Whole multipliers of rows that refute a box.
 ghost use Rattle.std.specs.Prelude.{◌≡◌, suc, ◌<◌, ◌≤◌, length, IfErr, IfOk};
 ghost use Rattle.design_problem.specs.Boxes.{Refutes};
-ghost use Rattle.design_problem.specs.Steps.{IsStuck};
+ghost use Rattle.design_problem.specs.Steps.{IsRefutingForm};
 ghost use Rattle.fraction_table.specs.Multipliers.{IsWideAtBasis, fractions_of};
 ghost use Rattle.fraction_table.specs.Pivots.{line_at, member_at};
 ghost use Rattle.table_kernel.specs.Kernels.{IsKernel, stated, width_of};
@@ -9,7 +9,7 @@ ghost use Rattle.table_kernel.specs.Kernels.{IsKernel, stated, width_of};
 use crate::Kernel;
 use crate::restate::fraction_over;
 use cost_base::OutOfMemory;
-use design_problem::Parts;
+use design_problem::Multipliers;
 use fraction_table::{SimplexStop, put_fraction, put_negated, whole_multipliers};
 use std::alloc::Global;
 use wide_fraction::Frac;
@@ -32,16 +32,17 @@ impl Kernel {
         Ok(parts)
     }
 
-    /// Whole multipliers of rows that refute the box, by a form that is stuck.
+    /// Whole multipliers of rows that refute the box, by a refuting form.
     ///
     /// # Errors
     ///
     /// `TooWide` where a step makes a whole number that passes the top; `OutOfMemory`.
-    pub fn multipliers(&self, alloc: Global, place: usize) -> Result<Parts, SimplexStop>
+    pub fn multipliers(&self, alloc: Global, place: usize) -> Result<Multipliers, SimplexStop>
         // The form at the place can't be made non-negative.
         requires kernel { IsKernel self.now }
         requires place { place < length self.now.constants.items }
-        requires stuck { IsStuck self.now.table.basis.items (line_at (stated self.now) place) }
+        requires refuting { IsRefutingForm self.now.table.basis.items (line_at (stated self.now)
+            place) }
 
         // On Ok the multipliers refute the box, with at most one row more than there are variables.
         ensures refutes { IfOk result (λ parts. Refutes self.now.table.rows.items parts

@@ -10,13 +10,13 @@ ghost use Rattle.integer_pivots.specs.Lines.{IsLine};
 ghost use Rattle.integer_pivots.specs.Numbers.{AllWithin};
 ghost use Rattle.table_kernel.specs.Kernels.{IsKernel, IsShaped, kernel_lines, width_of};
 ghost use Rattle.table_kernel.specs.Numbers.{share_of};
-ghost use Rattle.table_kernel.specs.ReadBack.{AllGoInto, FitsOver, IsLeastCommon, IsLeastDenominator, IsParked, IsReadFrom, MayReadBack, low_row, over_denominator};
+ghost use Rattle.table_kernel.specs.ReadBack.{AllGoInto, FitsOver, IsLeastCommon, IsLeastDenominator, IsParked, IsReadFrom, MayReadBack, low_line, over_denominator};
 ghost use Rattle.table_kernel.specs.Rows.{IsCovered};
 ghost use Rattle.table_kernel.specs.Turns.{KeepsAllButLows, line_of};
 
 use crate::Kernel;
 use crate::kernel::OutOfRange;
-use fraction_rows::TableRow;
+use fraction_lines::TableLine;
 use integer_pivots::{
     CONSTANT_LIMIT, ENTRY_LIMIT, Line, MarkedNumbers, common_multiple, greatest, put_leads,
     share_in, stays_within,
@@ -37,15 +37,15 @@ fn with_denominator(common: i64, value: Frac) -> Option<i64>
     common_multiple(common, denominator as i64)
 }
 
-/// The least common denominator of a row's fractions, where it is at most 2^30.
-fn denominator_of(row: &TableRow, width: u32) -> Option<i64>
-    requires width { length row.now ≡ suc width }
-    ensures { MatchOption result ((D : ℕ) → 0 < D → D ≤ 2 ^ 30 → AllGoInto row.now D → ⊥)
-        (IsLeastDenominator row.now) }
+/// The least common denominator of a line's fractions, where it is at most 2^30.
+fn denominator_of(fractions: &TableLine, width: u32) -> Option<i64>
+    requires width { length fractions.now ≡ suc width }
+    ensures { MatchOption result ((D : ℕ) → 0 < D → D ≤ 2 ^ 30 → AllGoInto fractions.now D → ⊥)
+        (IsLeastDenominator fractions.now) }
 {
-    let mut common = with_denominator(1, row.constant())?;
+    let mut common = with_denominator(1, fractions.constant())?;
     for column in 0..width {
-        common = with_denominator(common, row.entry(column))?;
+        common = with_denominator(common, fractions.entry(column))?;
     }
     Some(common)
 }
@@ -71,34 +71,35 @@ fn number_over(value: Frac, denominator: i64, limit: i64) -> Option<i64>
     Some(number as i64)
 }
 
-/// Puts a row's numbers at the columns over a denominator.
+/// Puts the numbers of a line of fractions at the columns over a denominator.
 ///
 /// # Errors
 ///
 /// `OutOfRange` where one of them passes 2^30 in size.
 fn read_numbers(
     numbers: &mut MarkedNumbers,
-    row: &TableRow,
+    fractions: &TableLine,
     denominator: i64,
 ) -> Result<(), OutOfRange>
-    // The row has a fraction for each number, behind its constant; each denominator goes into this one.
-    requires row { length row.now ≡ suc (length numbers.old) }
+    // There is a fraction for each number, behind the constant; each denominator goes into this one.
+    requires fractions { length fractions.now ≡ suc (length numbers.old) }
     requires few { length numbers.old < 2 ^ 32 }
     requires denominator { (pos 0 <ℤ denominator) × (denominator ≤ℤ pos (2 ^ 30)) }
-    requires whole { AllGoInto row.now (nat_abs denominator) }
+    requires whole { AllGoInto fractions.now (nat_abs denominator) }
 
     // On Ok each number is its column's over the denominator, and within 2^30.
     ensures count { length numbers.new ≡ length numbers.old }
     ensures read { OnOk result ((c : ℕ) → c < length numbers.old →
-        number_at numbers.new c ≡ over_denominator (nat_abs denominator) (entry row.now (suc c))) }
+        number_at numbers.new c ≡ over_denominator (nat_abs denominator) (entry fractions.now (suc c))) }
     ensures small { OnOk result (AllWithin (2 ^ 30) numbers.new) }
 
     // On Err the number of some column passes 2^30.
     ensures refused { OnErr result ((c : ℕ) × (c < length numbers.old) ×
-        (2 ^ 30 < nat_abs (over_denominator (nat_abs denominator) (entry row.now (suc c))))) }
+        (2 ^ 30 < nat_abs (over_denominator (nat_abs denominator) (entry fractions.now (suc c))))) }
 {
     for column in 0..numbers.as_slice().len() {
-        let Some(number) = number_over(row.entry(column as u32), denominator, ENTRY_LIMIT) else {
+        let Some(number) = number_over(fractions.entry(column as u32), denominator, ENTRY_LIMIT)
+        else {
             return Err(OutOfRange);
         };
         numbers.set(column, number);
@@ -106,32 +107,32 @@ fn read_numbers(
     Ok(())
 }
 
-/// Reads a line from a row of fractions.
+/// Reads a line from a line of fractions.
 ///
 /// # Errors
 ///
-/// `OutOfRange` where the row is within the bounds of a line over no denominator.
-fn read_line(line: &mut Line, row: &TableRow) -> Result<(), OutOfRange>
-    // The row has a constant, and a fraction for each number of the line.
-    requires row { length row.now ≡ suc (length line.old.numbers) }
+/// `OutOfRange` where the fractions are within the bounds of a line over no denominator.
+fn read_line(line: &mut Line, fractions: &TableLine) -> Result<(), OutOfRange>
+    // There is a constant, and a fraction for each number of the line.
+    requires fractions { length fractions.now ≡ suc (length line.old.numbers) }
     requires few { length line.old.numbers < 2 ^ 32 }
 
-    // On Ok the line has the row's numbers, over their least common denominator.
+    // On Ok the line has the fractions' numbers, over their least common denominator.
     ensures count { length line.new.numbers ≡ length line.old.numbers }
     ensures line { OnOk result (IsLine line.new) }
-    ensures read { OnOk result (IsReadFrom row.now line.new) }
+    ensures read { OnOk result (IsReadFrom fractions.now line.new) }
 
-    // On Err the row is within the bounds of a line over no denominator.
-    ensures refused { OnErr result ((D : ℕ) → FitsOver D row.now → ⊥) }
+    // On Err the fractions are within the bounds of a line over no denominator.
+    ensures refused { OnErr result ((D : ℕ) → FitsOver D fractions.now → ⊥) }
 {
     let width = line.numbers.as_slice().len() as u32;
-    let Some(denominator) = denominator_of(row, width) else {
+    let Some(denominator) = denominator_of(fractions, width) else {
         return Err(OutOfRange);
     };
-    let Some(constant) = number_over(row.constant(), denominator, CONSTANT_LIMIT) else {
+    let Some(constant) = number_over(fractions.constant(), denominator, CONSTANT_LIMIT) else {
         return Err(OutOfRange);
     };
-    read_numbers(&mut line.numbers, row, denominator)?;
+    read_numbers(&mut line.numbers, fractions, denominator)?;
     line.denominator = denominator;
     line.constant = constant;
     line.reach = greatest(line.numbers.as_slice());
@@ -157,22 +158,22 @@ impl Kernel {
     ///
     /// # Errors
     ///
-    /// `OutOfRange` where a row is within the bounds of a line over no denominator.
+    /// `OutOfRange` where a line of fractions is within the bounds of a line over no denominator.
     fn read_lines(&mut self) -> Result<(), OutOfRange>
         // Each variable has a line, before and after, with a number for each column.
         requires shaped { IsShaped self.old }
         ensures count { length self.new.lows.items ≡ width_of self.old }
         ensures each { All (λ line. length line.numbers ≡ width_of self.old) self.new.lows.items }
 
-        // On Ok each has the numbers of its row, over their least common denominator.
+        // On Ok each has the numbers of its line of fractions, over their least common denominator.
         ensures lines { OnOk result (All IsLine self.new.lows.items) }
         ensures read { OnOk result ((var : ℕ) → var < width_of self.old →
-            IsReadFrom (low_row self.old.table var) (line_of self.new var)) }
+            IsReadFrom (low_line self.old.table var) (line_of self.new var)) }
 
-        // Nothing else changes, and on Err some row fits a line over no denominator.
+        // Nothing else changes, and on Err some line of fractions fits a line over no denominator.
         ensures keeps { KeepsAllButLows self.old self.new }
         ensures refused { OnErr result ((var : ℕ) × (var < width_of self.old) ×
-            ((D : ℕ) → FitsOver D (low_row self.old.table var) → ⊥)) }
+            ((D : ℕ) → FitsOver D (low_line self.old.table var) → ⊥)) }
     {
         for var in 0..self.lows.len() {
             read_line(&mut self.lows[var], &self.table.lines[var])?;
@@ -222,7 +223,7 @@ impl Kernel {
     pub fn read_back(&mut self) -> Result<(), OutOfRange>
         // The kernel is parked; its table's lines are those at the basis, with a top that suffices for a kernel.
         requires parked { IsParked self.old }
-        requires whole { IsTableau self.old.table }
+        requires tableau { IsTableau self.old.table }
         requires top { 2 ^ 126 ≤ self.old.table.top }
 
         // The table stays as it is, and the kernel is fit to be parked in any case.

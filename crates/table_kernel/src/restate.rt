@@ -2,7 +2,7 @@
 ghost use Rattle.std.specs.Prelude.{◌≡◌, ℕ, suc, ◌<◌, ◌≤◌, [], pos, ◌<ℤ◌, nat_abs, length, slice_index_or, slice_set};
 ghost use Rattle.whole_numbers.specs.Lists.{number_at};
 ghost use Rattle.design_problem.specs.Basis.{IsFormOf, entry, member_form};
-ghost use Rattle.fraction_rows.specs.TableRows.{IsTableNumber, blank_row, nothing};
+ghost use Rattle.fraction_lines.specs.TableLines.{IsTableNumber, blank_line, nothing};
 ghost use Rattle.fraction_table.specs.Pivots.{KeepsBoxAndRows};
 ghost use Rattle.fraction_table.specs.ValidTables.{HasRoom, IsTableau};
 ghost use Rattle.table_kernel.specs.Kernels.{IsKernel, kernel_lines, width_of};
@@ -37,7 +37,7 @@ impl Kernel {
         requires kernel { IsKernel self.old }
         requires place { place < length self.old.constants.items }
         ensures lines { self.new.table.lines.items ≡ slice_set self.old.table.lines.items place
-            (slice_set (blank_row (width_of self.old)) 0
+            (slice_set (blank_line (width_of self.old)) 0
             (over_common (nat_abs self.old.common) (number_at self.old.constants.items place))) }
         ensures keeps { KeepsAllButLinesOf self.old self.new }
     {
@@ -96,7 +96,7 @@ impl Kernel {
         ensures lines { self.new.table.lines.items ≡ kernel_lines self.old }
 
         // The lines are the table at the basis, with room for pivots, so it can go on in fractions.
-        ensures whole { IsTableau self.new.table }
+        ensures tableau { IsTableau self.new.table }
         ensures room { HasRoom self.new.table }
 
         // The box, the rows and the basis stay, and a place for a row; the kernel is parked.

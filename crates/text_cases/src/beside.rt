@@ -28,13 +28,13 @@ impl<'a> fmt::Display for Costs<'a> {
 /// What is told of the present costs of a problem's variables.
 fn costs_text(
     alloc: Global,
-    requests: &RequestFile,
+    request_file: &RequestFile,
     network: &Lsdb,
     problem: &Problem,
 ) -> Result<String, AllocError>
-    requires { problem.now ≡ problem_of requests.now network.now }
+    requires { problem.now ≡ problem_of request_file.now network.now }
 {
-    match present_of_variables(alloc, requests, network, problem) {
+    match present_of_variables(alloc, request_file, network, problem) {
         Ok(costs) => format!(in alloc; ": present{}", Costs(costs.as_slice())),
         Err(_) => Err(AllocError),
     }
@@ -43,11 +43,11 @@ fn costs_text(
 /// The present cost of each variable that requests make of a network, or their first fault.
 pub(crate) fn beside_text(
     alloc: Global,
-    requests: &RequestFile,
+    request_file: &RequestFile,
     network: &Lsdb,
 ) -> Result<String, AllocError> {
-    match resolve_beside_present(alloc, requests, network) {
-        Ok(problem) => costs_text(alloc, requests, network, &problem),
+    match resolve_beside_present(alloc, request_file, network) {
+        Ok(problem) => costs_text(alloc, request_file, network, &problem),
         Err(stop) => format!(in alloc; ": {stop:?}"),
     }
 }

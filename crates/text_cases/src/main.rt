@@ -12,25 +12,11 @@ mod networks;
 mod problems;
 mod requests;
 
-use crate::answer::{Desk, answer};
+use crate::answer::Scene;
+use case_scripts::play_all;
 use std::io;
 
-/// Writes a line, and behind it what is answered.
-fn play(rt: HostRuntime, desk: &mut Desk, line: &str) -> io::Result<()> {
-    let text = answer(rt.alloc(), desk, line)?;
-    println!(rt; "{line}{text}")
-}
-
-/// Plays each line of standard input.
-fn play_all(rt: HostRuntime, desk: &mut Desk) -> io::Result<()> {
-    for line in rt.lines(rt.alloc()) {
-        let line = line?;
-        play(rt, desk, line.as_str())?;
-    }
-    Ok(())
-}
-
 fn main(rt: HostRuntime) -> io::Result<()> {
-    let mut desk = Desk::new(rt.alloc());
-    play_all(rt, &mut desk)
+    let mut scene = Scene::new(rt.alloc());
+    play_all(&rt, &mut scene)
 }

@@ -45,7 +45,7 @@ impl<'a> fmt::Display for Edges<'a> {
     }
 }
 
-/// Wanted paths, each on a line of its own: its edges, its end, and the edges that it goes without.
+/// Wanted paths, each on a line of its own: its edges, its end, and the edges that it excludes.
 #[derive(Drop)]
 struct Paths<'a>(&'a [Request]);
 
@@ -71,8 +71,8 @@ fn problem_shown(alloc: Global, problem: &Problem) -> Result<String, AllocError>
     let low = Written(problem.low.as_slice());
     let high = Written(problem.high.as_slice());
     let edges = Edges(problem.graph.edges());
-    let paths = Paths(problem.paths.as_slice());
-    format!(in alloc; ": low {low}; high {high}; variables {variables}\n {edges}{paths}")
+    let requests = Paths(problem.requests.as_slice());
+    format!(in alloc; ": low {low}; high {high}; variables {variables}\n {edges}{requests}")
 }
 
 /// What is told of a problem, or of the first fault of its requests.

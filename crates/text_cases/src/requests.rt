@@ -6,7 +6,9 @@ use crate::problems::problem_text;
 use cost_base::{Name, Refusal};
 use lsdb_build::Lsdb;
 use path_requests::{resolve, resolve_present};
-use request_reader::{Directive, Item, Part, RequestFault, RequestFile, read_requests};
+use request_reader::{
+    Directive, DirectiveLine, Excluded, RequestFault, RequestFile, read_request_file,
+};
 use std::alloc::{AllocError, Global};
 use std::fmt;
 
@@ -33,9 +35,9 @@ impl<'a> fmt::Display for Of<'a> {
 
 /// The hops of a path but for the last.
 #[derive(Drop)]
-struct Steps<'a>(&'a [(Name, Name)]);
+struct HopWords<'a>(&'a [(Name, Name)]);
 
-impl<'a> fmt::Display for Steps<'a> {
+impl<'a> fmt::Display for HopWords<'a> {
     fn fmt<W: fmt::Write>(&self, f: &mut fmt::Formatter<W>) -> fmt::Result {
         for (router, interface) in self.0 {
             write!(f, " by {}", Of(router, interface))?;
@@ -44,17 +46,17 @@ impl<'a> fmt::Display for Steps<'a> {
     }
 }
 
-/// A part that a path goes without.
-fn write_part<W: fmt::Write>(part: &Part, f: &mut fmt::Formatter<W>) -> fmt::Result {
+/// A router or a link that a path excludes.
+fn write_part<W: fmt::Write>(part: &Excluded, f: &mut fmt::Formatter<W>) -> fmt::Result {
     match part {
-        Part::Router(router) => write!(f, ", without router {}", Called(router)),
-        Part::Interface(router, interface) => write!(f, ", without {}", Of(router, interface)),
+        Excluded::Router(router) => write!(f, ", without router {}", Called(router)),
+        Excluded::Interface(router, interface) => write!(f, ", without {}", Of(router, interface)),
     }
 }
 
-/// The parts that a path goes without.
+/// The routers and links that a path excludes.
 #[derive(Drop)]
-struct Without<'a>(&'a [Part]);
+struct Without<'a>(&'a [Excluded]);
 
 impl<'a> fmt::Display for Without<'a> {
     fn fmt<W: fmt::Write>(&self, f: &mut fmt::Formatter<W>) -> fmt::Result {
@@ -67,7 +69,7 @@ impl<'a> fmt::Display for Without<'a> {
 
 /// A line of a request file, as it is written.
 #[derive(Drop)]
-struct Shown<'a>(&'a Item);
+struct Shown<'a>(&'a DirectiveLine);
 
 impl<'a> fmt::Display for Shown<'a> {
     fn fmt<W: fmt::Write>(&self, f: &mut fmt::Formatter<W>) -> fmt::Result {
@@ -86,10 +88,10 @@ impl<'a> fmt::Display for Shown<'a> {
                 write!(f, "line {line}: {} symmetric", Of(router, interface))
             }
             Directive::Path(hops, without) => {
-                let (steps, without) = (Steps(hops.as_slice()), Without(without.as_slice()));
+                let (hop_words, without) = (HopWords(hops.as_slice()), Without(without.as_slice()));
                 write!(
                     f,
-                    "line {line}: path{steps} to {}{without}",
+                    "line {line}: path{hop_words} to {}{without}",
                     Called(hops.last())
                 )
             }
@@ -102,14 +104,14 @@ fn requests_of(alloc: Global, bytes: &[u8]) -> Result<RequestFile, Refusal<Reque
     if bytes.len() > LONGEST {
         return Err(Refusal::OutOfMemory);
     }
-    read_requests(alloc, bytes)
+    read_request_file(alloc, bytes)
 }
 
 /// The lines of a request file, as they are written.
 #[derive(Drop)]
-struct Items<'a>(&'a [Item]);
+struct DirectiveLines<'a>(&'a [DirectiveLine]);
 
-impl<'a> fmt::Display for Items<'a> {
+impl<'a> fmt::Display for DirectiveLines<'a> {
     fn fmt<W: fmt::Write>(&self, f: &mut fmt::Formatter<W>) -> fmt::Result {
         for item in self.0 {
             write!(f, "\n  {}", Shown(item))?;
@@ -119,10 +121,10 @@ impl<'a> fmt::Display for Items<'a> {
 }
 
 /// What a request file asks for.
-fn requests_text(alloc: Global, requests: &RequestFile) -> Result<String, AllocError> {
-    let area = requests.area;
-    let items = Items(requests.items.as_slice());
-    match requests.default_cost {
+fn requests_text(alloc: Global, request_file: &RequestFile) -> Result<String, AllocError> {
+    let area = request_file.area;
+    let items = DirectiveLines(request_file.items.as_slice());
+    match request_file.default_cost {
         Some(cost) => format!(in alloc; ": area {area}, default cost {cost}{items}"),
         None => format!(in alloc; ": area {area}{items}"),
     }
@@ -132,16 +134,16 @@ fn requests_text(alloc: Global, requests: &RequestFile) -> Result<String, AllocE
 fn told(
     alloc: Global,
     first: &str,
-    requests: &RequestFile,
+    request_file: &RequestFile,
     network: &Option<Lsdb>,
 ) -> Result<String, AllocError> {
     match (first, network) {
-        ("problem", Some(network)) => problem_text(alloc, resolve(alloc, requests, network)),
+        ("problem", Some(network)) => problem_text(alloc, resolve(alloc, request_file, network)),
         ("present", Some(network)) => {
-            problem_text(alloc, resolve_present(alloc, requests, network))
+            problem_text(alloc, resolve_present(alloc, request_file, network))
         }
-        ("beside", Some(network)) => beside_text(alloc, requests, network),
-        _ => requests_text(alloc, requests),
+        ("beside", Some(network)) => beside_text(alloc, request_file, network),
+        _ => requests_text(alloc, request_file),
     }
 }
 
@@ -156,7 +158,7 @@ pub(crate) fn request_text(
     network: &Option<Lsdb>,
 ) -> Result<String, AllocError> {
     match requests_of(alloc, bytes) {
-        Ok(requests) => told(alloc, first, &requests, network),
+        Ok(request_file) => told(alloc, first, &request_file, network),
         Err(stop) => format!(in alloc; ": {stop:?}"),
     }
 }

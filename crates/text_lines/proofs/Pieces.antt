@@ -1,7 +1,7 @@
 -- Texts cut at the first of some byte, and lines.
 use Rattle.std.proofs.Common.{◌≡◌, ◌≢◌, ℕ, zero, suc, ◌-◌, ◌<◌, ◌≤◌, List, [], ◌∷◌, ◌++◌, length, get_or, take, drop, eqb, Bool, cond, true, false, refl, sym, ap, ◌∙◌, arith, length-take, length-drop, append-nil}
 use Rattle.std.proofs.lemmas.Bool.{false_from_ne_true, eqb-true}
-use Rattle.text_lines.specs.Lines.{lines, grow, ends_line}
+use Rattle.text_lines.specs.Lines.{lines, grow}
 use Rattle.text_lines.specs.Numbers.{split}
 use Rattle.text_lines.specs.Reading.{IsFirstLine}
 
@@ -80,11 +80,3 @@ split-some c (x ∷ xs) e = cases (eqb x c) (split c xs) e
     cases true ps h = cc
     cases false [] h = cc
     cases false (p ∷ ps) h = cc
-
--- a text ends with an LF where its last byte is one
-pub ends_line-last : (s : List ℕ) → 1 ≤ length s → eqb (get_or s (length s - 1) 0) 10 ≡ ends_line s
-ends_line-last [] some = absurd (omega arith)
-ends_line-last (x ∷ []) some = refl
-ends_line-last (x ∷ y ∷ ys) some =
-    let place : length (x ∷ y ∷ ys) - 1 ≡ suc (length (y ∷ ys) - 1) = omega arith in
-    ap (λ i. eqb (get_or (x ∷ y ∷ ys) i 0) 10) place ∙ ends_line-last (y ∷ ys) (omega arith)

@@ -25,7 +25,8 @@ said_push_from n (first ∷ more) line =
     let place : n + 1 + length more ≡ n + length (first ∷ more) = omega arith in
     ap (λ (rest : List SaidLine). said_in_line n (said_words (words first)) ++ rest) (said_push_from (n + 1) more line
     ∙ ap (λ (k : ℕ). said_from (n + 1) more ++ said_in_line k (said_words (words line))) place)
-    ∙ sym (append_assoc (said_in_line n (said_words (words first))) (said_from (n + 1) more) (said_in_line (n + length (first ∷ more)) (said_words (words line))))
+    ∙ sym (append_assoc (said_in_line n (said_words (words first))) (said_from (n + 1) more)
+    (said_in_line (n + length (first ∷ more)) (said_words (words line))))
 
 -- the lines that say something, and one line more
 pub said_push : (file : List (List ℕ)) (line : List ℕ) → said_lines (file ++ line ∷ [])
@@ -92,7 +93,8 @@ pub header_refused : {F R : Type 0} (rules : TextRules F) (took : R → List Sai
     (said : List SaidLine) (n : ℕ) (word : List ℕ) (rest ws : List (List ℕ)) (refusal : Refusal F ℕ) → ws ≡ word ∷ rest → begun ≡ false →
     is_header rules.kind (word ∷ rest) ≡ false → TellsFault (Some (fault_at n rules.bad_line)) refusal →
     StandsBehind took reader begun said → TellsFault (fault_in_line n (fault_of_words rules said ws)) refusal
-header_refused {F} {R} rules took reader begun (header ∷ before) n word rest ws refusal is missing other tells stands = absurd (false≢true (sym missing ∙ stands.header))
+header_refused {F} {R} rules took reader begun (header ∷ before) n word rest ws refusal is missing other tells stands = absurd
+    (false≢true (sym missing ∙ stands.header))
 header_refused {F} {R} rules took reader begun [] n word rest ws refusal is missing other tells stands =
     subst (λ (o : Option F). TellsFault (fault_in_line n o) refusal)
     (sym (ap (fault_of_words rules []) is ∙ cond-false (is_header rules.kind (word ∷ rest)) None (Some rules.bad_line) other)) tells
@@ -249,7 +251,8 @@ holds_from : {F : Type 0} (rules : TextRules F) (P : List SaidLine → Type 0) (
     P (statements front) → faults_by_line (fault_of_line rules) front rest ≡ [] → P (statements (front ++ rest))
 holds_from {F} rules P [] front step holds none = subst (λ (file : List (List ℕ)). P (statements file)) (sym (append-nil front)) holds
 holds_from {F} rules P (line ∷ rest) front step holds none =
-    let parts = append-none (faults_at (length front + 1) (fault_of_line rules front line)) (faults_by_line (fault_of_line rules) (front ++ line ∷ []) rest) none in
+    let parts = append-none (faults_at (length front + 1) (fault_of_line rules front line)) (faults_by_line (fault_of_line rules) (front ++ line ∷ []) rest)
+    none in
     let lawful = not_fault (nat_le (length line) 65536) (fault_of_words rules (said_lines front) (said_words (words line))) rules.bad_line
     (no_fault_in (length front + 1) (fault_of_line rules front line) parts.0) in
     subst (λ (file : List (List ℕ)). P (statements file)) (append_assoc front (line ∷ []) rest)

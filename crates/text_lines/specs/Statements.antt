@@ -43,7 +43,7 @@ behind_header (header ∷ statements) = statements
 abbrev pub statements : List (List ℕ) → List SaidLine
 statements file = behind_header (said_lines file)
 
--- `ospfcost KIND 1`
+-- the words of a line are the header of a text of this kind: `ospfcost KIND 1`
 abbrev pub is_header : List ℕ → List (List ℕ) → Bool
 is_header kind (name ∷ word ∷ version ∷ []) = same_bytes name (codes "ospfcost") && (same_bytes word kind && same_bytes version (codes "1"))
 is_header kind _ = false
@@ -86,7 +86,8 @@ text_faults {F} rules file = faults_by_line (fault_of_line rules) [] file ++ hea
 abbrev pub text_fault : {F : Type 0} → TextRules F → List ℕ → Option (FaultyLine F)
 text_fault {F} rules bytes = first_of (text_faults rules (lines bytes))
 
--- a reader stands behind these lines that say something: it knows whether a header is among them, and took the statements
+-- a reader stands behind these lines that say something: it knows whether a header is among them, and took the
+-- statements
 pub record StandsBehind {R : Type 0} (took : R → List SaidLine → Type 0) (reader : R) (begun : Bool) (said : List SaidLine) : Type 0 where
   pub header : begun ≡ has_header said
   pub taken : took reader (behind_header said)

@@ -1,6 +1,5 @@
 //! Reading a text line by line.
-ghost use Rattle.std.specs.Prelude.{◌≡◌, ◌==◌, ◌-◌, ◌^◌, ◌<◌, ◌≢◌, ◌↔◌, true, [], length, IsNone, IfNone, IfSome, MatchResult};
-ghost use Rattle.text_lines.specs.Lines as definition;
+ghost use Rattle.std.specs.Prelude.{◌≡◌, ◌-◌, ◌^◌, ◌<◌, ◌≢◌, ◌↔◌, true, [], length, IsNone, IfNone, IfSome, MatchResult};
 ghost use Rattle.text_lines.specs.Reading.{IsFirstLine, IsLineRead, IsLongLine, IsNumbered, IsNumberedLong};
 
 use crate::kinds::starts_with_blank;
@@ -93,23 +92,6 @@ impl<'a> Lines<'a> {
         ensures { result ≡ self.now.ended }
     {
         self.ended
-    }
-
-    /// Whether no line is left.
-    pub fn is_at_end(&self) -> bool
-        ensures { result ≡ (length self.now.bytes == 0) }
-    {
-        self.left.is_empty()
-    }
-}
-
-/// Whether the last line of a text ends with an LF; true of a text without lines.
-pub fn ends_line(text: &[u8]) -> bool
-    ensures { result ≡ definition.ends_line text.now }
-{
-    match text {
-        [.., last] => *last == b'\n',
-        [] => true,
     }
 }
 

@@ -95,16 +95,17 @@ fn read_line<F: Copy, R: StatementReader<F>>(
 ) -> Result<bool, Refusal<F>>
     ensures lawful { OnOk result ((start : R) (said : List SaidLine) →
         StandsBehind (R.took start) reader.old begun said →
-        fault_of_words (rules_of kind.now (R.fault_of start)) said (said_words (words line.entry.text.now)) ≡
-        None) }
+        fault_of_words (rules_of kind.now (R.fault_of start)) said
+        (said_words (words line.entry.text.now)) ≡ None) }
     ensures read { IfOk result (λ now. (start : R) (said : List SaidLine) →
         StandsBehind (R.took start) reader.old begun said →
         StandsBehind (R.took start) reader.new now
         (said ++ said_in_line line.entry.number (said_words (words line.entry.text.now)))) }
     ensures refused { IfErr result (λ refusal. (start : R) (said : List SaidLine) →
         StandsBehind (R.took start) reader.old begun said →
-        TellsFault (fault_in_line line.entry.number (fault_of_words (rules_of kind.now (R.fault_of start))
-        said (said_words (words line.entry.text.now)))) refusal) }
+        TellsFault (fault_in_line line.entry.number
+        (fault_of_words (rules_of kind.now (R.fault_of start)) said
+        (said_words (words line.entry.text.now)))) refusal) }
 {
     let Some((word, rest)) = first_said(line.text) else {
         return Ok(begun);
@@ -135,6 +136,7 @@ pub fn read_statements<F: Copy, R: StatementReader<F>>(
     kind: &TextKind<'_, F>,
     bytes: &[u8],
 ) -> Result<u32, Refusal<F>>
+    // Its lines can be counted, and the reader has taken nothing yet.
     requires few { length bytes.now < 2 ^ 32 - 1 }
     requires none { R.took reader.old reader.old [] }
 

@@ -1,4 +1,4 @@
--- A case of one block, and the sides that start 1 chooses.
+-- An example of one block, and the sides that start 1 chooses.
 use Rattle.std.proofs.Common.{◌≡◌, [], ◌∷◌, true, false, refl, map}
 use Rattle.std.specs.Prelude.{codes}
 use Rattle.trial_maker.specs.TrialTexts.{made_trial, takes_upper, begins_block, joint_config, side_config}

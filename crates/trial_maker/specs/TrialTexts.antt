@@ -1,6 +1,7 @@
 -- Trials with a number of blocks, each with two sides: their routers, configurations and requests.
 use Rattle.std.specs.Prelude.{ℕ, zero, suc, ◌+◌, ◌*◌, ◌/◌, ◌%◌, ◌==◌, List, [], ◌∷◌, ◌++◌, codes, Bool, if◌then◌else◌}
 use Rattle.cost_base.specs.Decimal.{decimal}
+use Rattle.line_builder.specs.Words.{dotted_quad}
 use Rattle.trial_maker.specs.declared.TrialTexts.{TrialTexts}
 
 -- what blocks 0 to n - 1 have, one after another
@@ -32,7 +33,8 @@ block_files i = file_name (upper_router i) ∷ file_name (lower_router i) ∷ fi
 abbrev pub file_names : ℕ → List (List ℕ)
 file_names blocks = file_name (joint 0) ∷ over_blocks block_files blocks
 
--- link k of all blocks has the subnet 10.0.0.0 plus 2k of length 31: its first router has the even address, its second the odd one
+-- link k of all blocks has the subnet 10.0.0.0 plus 2k of length 31: its first router has the even address, its second
+-- the odd one
 abbrev pub first_end : ℕ → ℕ
 first_end k = 167772160 + 2 * k
 
@@ -40,22 +42,11 @@ first_end k = 167772160 + 2 * k
 abbrev pub second_end : ℕ → ℕ
 second_end k = 167772161 + 2 * k
 
--- an address as a dotted quad
-abbrev pub address_text : ℕ → List ℕ
-address_text a =
-    decimal (a / 16777216)
-    ++ codes "." ++ decimal (a / 65536 % 256)
-    ++ codes "." ++ decimal (a / 256 % 256)
-    ++ codes "." ++ decimal (a % 256)
-
--- the lines of an interface up to its address
-abbrev pub interface_head : ℕ → List ℕ
-interface_head n = codes "interface e" ++ decimal n ++ codes "\n ip address "
-
 -- interface number n of a router, with an address
 abbrev pub interface_text : ℕ → ℕ → List ℕ
 interface_text n address =
-    interface_head n ++ address_text address
+    codes "interface e" ++ decimal n
+    ++ codes "\n ip address " ++ dotted_quad address
     ++ codes "/31\n ip ospf area 0\n ip ospf network point-to-point\nexit\n"
 
 -- the router of a side, which is the second router of link k and the first of link k + 1
@@ -104,19 +95,27 @@ is_even_high s = s / 65536 % 2 == 0
 abbrev pub takes_upper : ℕ → ℕ → Bool
 takes_upper start i = is_even_high (next_number (number_after start i))
 
--- the two hops of a block over a side, each with a space behind it
+-- a hop of a path: a router, and interface number n that the path leaves it by
+abbrev pub hop : List ℕ → ℕ → List ℕ
+hop router n = router ++ codes ":e" ++ decimal n
+
+-- the two hops of a block over a side, each behind a space
 abbrev pub hops_over : Bool → ℕ → List ℕ
 hops_over is_upper i =
-    joint i ++ codes ":e" ++ decimal (if is_upper then onward i else onward i + 1)
-    ++ codes " " ++ (if is_upper then upper_router i else lower_router i) ++ codes ":e1 "
+    codes " " ++ hop (joint i) (if is_upper then onward i else onward i + 1)
+    ++ codes " " ++ hop (if is_upper then upper_router i else lower_router i) 1
 
 -- the two hops of the wanted path over block i
 abbrev pub hops : ℕ → ℕ → List ℕ
 hops start i = hops_over (takes_upper start i) i
 
+-- the end of a `path` line whose last router is j_i
+abbrev pub path_end : ℕ → List ℕ
+path_end i = codes " " ++ joint i ++ codes "\n"
+
 -- the `path` line of block i over a side
 abbrev pub path_over : Bool → ℕ → List ℕ
-path_over is_upper i = codes "path " ++ hops_over is_upper i ++ joint (i + 1) ++ codes "\n"
+path_over is_upper i = codes "path" ++ hops_over is_upper i ++ path_end (i + 1)
 
 -- the wanted path from j_i to j_(i+1)
 abbrev pub block_path : ℕ → ℕ → List ℕ
@@ -124,7 +123,7 @@ block_path start i = path_over (takes_upper start i) i
 
 -- the wanted path from j0 to the last router of the last block
 abbrev pub whole_path : ℕ → ℕ → List ℕ
-whole_path start blocks = codes "path " ++ over_blocks (hops start) blocks ++ joint blocks ++ codes "\n"
+whole_path start blocks = codes "path" ++ over_blocks (hops start) blocks ++ path_end blocks
 
 -- the request file: all costs free from 1 to 65535, a wanted path for each block, and one over all blocks
 abbrev pub request : ℕ → ℕ → List ℕ

@@ -4,7 +4,7 @@ ghost use Rattle.cost_base.specs.Decimal.{decimal};
 ghost use Rattle.trial_maker.specs.TrialTexts.{file_name, first_end, second_end, side_config, onward, begins_block, ends_block, joint_config};
 ghost use Rattle.trial_maker.specs.TrialTexts as cases;
 
-use crate::pieces::{push_interface, push_router};
+use crate::pieces::{push_interface, push_name};
 use cost_base::{Name, OutOfMemory};
 use std::alloc::Global;
 use text_lines::push_bytes;
@@ -14,7 +14,7 @@ fn file_name_of(alloc: Global, letter: u8, number: u32) -> Result<Name, OutOfMem
     ensures { IfOk result (λ name. name ≡ file_name (letter ∷ decimal number)) }
 {
     let mut name = Vec::new(alloc);
-    push_router(&mut name, letter, number)?;
+    push_name(&mut name, letter, number)?;
     push_bytes(&mut name, b".conf")?;
     Name::from_bytes(alloc, &name)
 }

@@ -1,52 +1,18 @@
 //! Pieces of text, each added at the end of a text.
 ghost use Rattle.std.specs.Prelude.{◌≡◌, ◌∷◌, ◌++◌, OnOk};
 ghost use Rattle.cost_base.specs.Decimal.{decimal};
-ghost use Rattle.trial_maker.specs.TrialTexts.{address_text, interface_head, interface_text};
+ghost use Rattle.trial_maker.specs.TrialTexts.{interface_text};
 
 use cost_base::OutOfMemory;
+use line_builder::push_quad;
 use text_lines::{push_bytes, push_number};
 
-/// Adds the name of a router: its letter and its number.
-pub(crate) fn push_router(text: &mut Vec<u8>, letter: u8, number: u32) -> Result<(), OutOfMemory>
+/// Adds the name of a router or of an interface: its letter and its number.
+pub(crate) fn push_name(text: &mut Vec<u8>, letter: u8, number: u32) -> Result<(), OutOfMemory>
     ensures { OnOk result (text.new.items ≡ text.old.items ++ letter ∷ decimal number) }
 {
     push_bytes(text, &[letter])?;
     push_number(text, u128::from(number))
-}
-
-/// Adds an address as a dotted quad.
-pub(crate) fn push_quad(text: &mut Vec<u8>, address: u32) -> Result<(), OutOfMemory>
-    ensures { OnOk result (text.new.items ≡ text.old.items ++ address_text address) }
-{
-    push_number(text, u128::from(address / 16_777_216))?;
-    push_bytes(text, b".")?;
-    push_number(text, u128::from(address / 65_536 % 256))?;
-    push_bytes(text, b".")?;
-    push_number(text, u128::from(address / 256 % 256))?;
-    push_bytes(text, b".")?;
-    push_number(text, u128::from(address % 256))
-}
-
-/// Adds a number between two texts.
-fn push_between(
-    text: &mut Vec<u8>,
-    before: &[u8],
-    number: u32,
-    after: &[u8],
-) -> Result<(), OutOfMemory>
-    ensures { OnOk result (text.new.items ≡ text.old.items ++
-        (before.now ++ (decimal number ++ after.now))) }
-{
-    push_bytes(text, before)?;
-    push_number(text, u128::from(number))?;
-    push_bytes(text, after)
-}
-
-/// Adds the lines of an interface up to its address.
-fn push_interface_head(text: &mut Vec<u8>, number: u32) -> Result<(), OutOfMemory>
-    ensures { OnOk result (text.new.items ≡ text.old.items ++ interface_head number) }
-{
-    push_between(text, b"interface e", number, b"\n ip address ")
 }
 
 /// Adds the lines of an interface of this number with this address.
@@ -57,7 +23,9 @@ pub(crate) fn push_interface(
 ) -> Result<(), OutOfMemory>
     ensures { OnOk result (text.new.items ≡ text.old.items ++ interface_text number address) }
 {
-    push_interface_head(text, number)?;
+    push_bytes(text, b"interface ")?;
+    push_name(text, b'e', number)?;
+    push_bytes(text, b"\n ip address ")?;
     push_quad(text, address)?;
     push_bytes(
         text,

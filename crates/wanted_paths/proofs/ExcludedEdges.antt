@@ -1,6 +1,6 @@
 -- The list of excluded edges has exactly those that a part excludes.
-use Rattle.std.proofs.Common.{inl, inr, ◌≡◌, ℕ, zero, suc, ◌+◌, ◌<◌, ◌≤◌, refl, sym, ◌∙◌, ap, List, [], ◌∷◌, ◌++◌, length, get_or, arith, Bool, true, false, cond, Option, Some, None}
-use Rattle.std.specs.Prelude.{All, filter, option_to_list, slice_get, slice_index_or, ◌&&◌, ◌||◌, ◌==◌}
+use Rattle.std.proofs.Common.{inl, inr, ◌≡◌, ℕ, zero, suc, ◌+◌, ◌<◌, ◌≤◌, refl, sym, ◌∙◌, ap, List, [], ◌∷◌, length, get_or, arith, Bool, true, false, Option, Some, None}
+use Rattle.std.specs.Prelude.{All, filter, option_to_list, slice_get, ◌&&◌, ◌||◌, ◌==◌}
 use Rattle.std.specs.List.{list_any}
 use Rattle.std.proofs.lemmas.List.Elements.{All-weaker}
 use Rattle.std.proofs.lemmas.List.{get_or_default}
@@ -9,25 +9,19 @@ use Rattle.std.proofs.Math.Bool.{or-false}
 use Rattle.std.proofs.lemmas.Bool.{cases_Bool, cases_eq, eq-eqb, ne_eqb, false≢true}
 use Rattle.cost_base.specs.Lists.{numbers_from}
 use Rattle.cost_base.proofs.ListLemmas.{filter-numbers_from-agree, list_any-agree}
+use Rattle.cost_base.specs.Marks.{is_marked}
 use Rattle.area_graph.specs.Area.{Area, edge_at, edges_out, edges_in}
 use Rattle.area_graph.specs.Distances.{AreEdgeMarks}
 use Rattle.lsdb_build.specs.declared.Far.{Far}
 use Rattle.lsdb_build.specs.declared.Far.TheVariants.{Router as ToRouter, Subnet as ToSubnet}
 use Rattle.lsdb_build.specs.declared.Linked.{Linked}
 use Rattle.lsdb_build.specs.Graphs.{Database}
-use Rattle.request_reader.specs.declared.Part.{Part}
-use Rattle.request_reader.specs.declared.Part.TheVariants.{Router, Interface}
+use Rattle.request_reader.specs.declared.Excluded.{Excluded}
+use Rattle.request_reader.specs.declared.Excluded.TheVariants.{Router, Interface}
 use Rattle.wanted_paths.specs.Paths.{link_number, router_number, link_excludes, excludes, excluded_edges}
 use Rattle.wanted_paths.specs.Excluded.{excluded_from, excluded_at, excluded_by, excluded_by_all}
 use Rattle.wanted_paths.proofs.LookUps.{filter_twice}
 use Rattle.wanted_paths.proofs.RouteLaws.{lacks_from, lacks_test}
-
-pub filter_head : {X : Type 0} (p : X → Bool) (x : X) (xs : List X) → filter p (x ∷ xs) ≡ filter p (x ∷ []) ++ filter p xs
-filter_head p x xs = by_test (p x)
-  where
-    by_test : (b : Bool) → cond b (x ∷ filter p xs) (filter p xs) ≡ cond b (x ∷ []) [] ++ filter p xs
-    by_test true = refl
-    by_test false = refl
 
 -- whether an edge stands in a list
 abbrev pub has : ℕ → List ℕ → Bool
@@ -103,7 +97,7 @@ has_link d g l e (Some link) within =
     excludes_is (Some m) (ToSubnet s) = refl
 
 -- an edge is in the list exactly where the part excludes it
-has_part : (d : Database) (g : Area) (e : ℕ) (part : Part) → e < length g.edges → has e (excluded_by d g part) ≡ excludes d g e part
+has_part : (d : Database) (g : Area) (e : ℕ) (part : Excluded) → e < length g.edges → has e (excluded_by d g part) ≡ excludes d g e part
 has_part d g e (Router name) within =
     let r = router_number d name in
     list_any-append (λ x. e == x) (edges_out g r) (edges_in g r)
@@ -113,7 +107,8 @@ has_part d g e (Interface router interface) within =
     let l = link_number d router interface in
     has_link d g l e (slice_get d.links l) within
 
-pub has_parts : (d : Database) (g : Area) (e : ℕ) (parts : List Part) → e < length g.edges → has e (excluded_by_all d g parts) ≡ list_any (excludes d g e) parts
+pub has_parts : (d : Database) (g : Area) (e : ℕ) (parts : List Excluded) → e < length g.edges →
+    has e (excluded_by_all d g parts) ≡ list_any (excludes d g e) parts
 has_parts d g e [] within = refl
 has_parts d g e (part ∷ parts) within =
     list_any-append (λ x. e == x) (excluded_by d g part) (excluded_by_all d g parts)
@@ -121,9 +116,9 @@ has_parts d g e (part ∷ parts) within =
     ∙ ap (λ b. excludes d g e part || b) (has_parts d g e parts within)
 
 -- a mark tells whether the edge is excluded
-pub mark_is : (d : Database) (g : Area) (parts : List Part) (excluded : List ℕ) (marks : List Bool) (e : ℕ) →
+pub mark_is : (d : Database) (g : Area) (parts : List Excluded) (excluded : List ℕ) (marks : List Bool) (e : ℕ) →
     AreEdgeMarks excluded marks → excluded ≡ excluded_by_all d g parts → length marks ≡ length g.edges → e < length g.edges →
-    slice_index_or marks e false ≡ list_any (excludes d g e) parts
+    is_marked marks e ≡ list_any (excludes d g e) parts
 mark_is d g parts excluded marks e are is count within =
     let here = are e (omega arith) in
     let same = get_or_default marks e false true (omega arith) in
@@ -131,27 +126,27 @@ mark_is d g parts excluded marks e are is count within =
     ∙ ap (has e) is ∙ has_parts d g e parts within
   where
     by_mark : (mark found : Bool) → (mark ≡ false → found ≡ false) → (found ≡ false → mark ≡ false) →
-        slice_index_or marks e false ≡ mark → slice_index_or marks e false ≡ found
+        is_marked marks e ≡ mark → is_marked marks e ≡ found
     by_mark true true to from same = same
     by_mark true false to from same = absurd (false≢true (sym (from refl)))
     by_mark false true to from same = absurd (false≢true (sym (to refl)))
     by_mark false false to from same = same
 
 -- the marked edges are those that the parts exclude
-pub marked_are : (d : Database) (g : Area) (parts : List Part) (excluded : List ℕ) (marks : List Bool) →
+pub marked_are : (d : Database) (g : Area) (parts : List Excluded) (excluded : List ℕ) (marks : List Bool) →
     AreEdgeMarks excluded marks → excluded ≡ excluded_by_all d g parts → length marks ≡ length g.edges →
-    filter (λ e. slice_index_or marks e false) (numbers_from 0 (length marks)) ≡ excluded_edges d g parts
+    filter (is_marked marks) (numbers_from 0 (length marks)) ≡ excluded_edges d g parts
 marked_are d g parts excluded marks are is count =
-    filter-numbers_from-agree (λ e. slice_index_or marks e false) (λ e. list_any (excludes d g e) parts) 0 (length marks)
+    filter-numbers_from-agree (is_marked marks) (λ e. list_any (excludes d g e) parts) 0 (length marks)
     (λ e above below. mark_is d g parts excluded marks e are is count (omega arith))
     ∙ ap (λ n. filter (λ e. list_any (excludes d g e) parts) (numbers_from 0 n)) count
 
 -- a path has a marked edge exactly where one of its edges is excluded
-pub path_marked : (d : Database) (g : Area) (parts : List Part) (excluded : List ℕ) (marks : List Bool) (es : List ℕ) →
+pub path_marked : (d : Database) (g : Area) (parts : List Excluded) (excluded : List ℕ) (marks : List Bool) (es : List ℕ) →
     AreEdgeMarks excluded marks → excluded ≡ excluded_by_all d g parts → length marks ≡ length g.edges →
     All (λ e. e < length g.edges) es →
-    list_any (λ e. slice_index_or marks e false) es ≡ list_any (λ e. list_any (excludes d g e) parts) es
+    list_any (is_marked marks) es ≡ list_any (λ e. list_any (excludes d g e) parts) es
 path_marked d g parts excluded marks es are is count within =
-    list_any-agree (λ e. slice_index_or marks e false) (λ e. list_any (excludes d g e) parts) es
-    (All-weaker (λ e. e < length g.edges) (λ e. slice_index_or marks e false ≡ list_any (excludes d g e) parts)
+    list_any-agree (is_marked marks) (λ e. list_any (excludes d g e) parts) es
+    (All-weaker (λ e. e < length g.edges) (λ e. is_marked marks e ≡ list_any (excludes d g e) parts)
     (λ e below. mark_is d g parts excluded marks e are is count below) es within)

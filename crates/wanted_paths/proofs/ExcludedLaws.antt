@@ -8,7 +8,7 @@ use Rattle.cost_base.proofs.ListLemmas.{length-numbers_from, get_or-numbers_from
 use Rattle.area_graph.specs.Area.{Area}
 use Rattle.lsdb_build.specs.Graphs.{Database}
 use Rattle.design_problem.specs.Problems.{MayBeExcluded}
-use Rattle.request_reader.specs.declared.Part.{Part}
+use Rattle.request_reader.specs.declared.Excluded.{Excluded}
 use Rattle.wanted_paths.specs.Paths.{excludes, excluded_edges}
 
 numbers_rise : (a n : ℕ) → IsStrictlyIncreasing (numbers_from a n)
@@ -19,7 +19,7 @@ numbers_rise a n = λ k within.
     omega (arith, here, next))
 
 -- the edges of a request's `without` are edges of the graph, and rise
-pub excluded_may_be : (d : Database) (g : Area) (parts : List Part) → MayBeExcluded g (excluded_edges d g parts)
+pub excluded_may_be : (d : Database) (g : Area) (parts : List Excluded) → MayBeExcluded g (excluded_edges d g parts)
 excluded_may_be d g parts =
     let test : ℕ → Bool = λ e. list_any (excludes d g e) parts in (
       IsStrictlyIncreasing-filter test (numbers_from 0 (length g.edges)) (numbers_rise 0 (length g.edges)),

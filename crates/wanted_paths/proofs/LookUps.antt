@@ -212,7 +212,8 @@ filter_twice p q (x ∷ xs) =
     ]
 
 -- the first edge out of a vertex that leads to a router
-pub edge_to_first : (g : Area) (from router : ℕ) → edge_between g from router ≡ unwrap_or (first_of (filter (λ e. (edge_at g e).to == router) (edges_out g from))) 0
+pub edge_to_first : (g : Area) (from router : ℕ) → edge_between g from router ≡
+    unwrap_or (first_of (filter (λ e. (edge_at g e).to == router) (edges_out g from))) 0
 edge_to_first g from router = ap (λ (es : List ℕ). unwrap_or (first_of es) 0)
     (sym (filter_twice (λ e. (edge_at g e).from == from) (λ e. (edge_at g e).to == router)
     (numbers_from 0 (length g.edges))))

@@ -8,7 +8,7 @@ use Rattle.cost_base.specs.declared.refusal.Refusal.{Refusal}
 use Rattle.area_graph.specs.Area.{Area}
 use Rattle.lsdb_build.specs.Graphs.{Database}
 use Rattle.design_problem.specs.declared.problem.Request.{Request}
-use Rattle.request_reader.specs.declared.Item.{Item}
+use Rattle.request_reader.specs.declared.DirectiveLine.{DirectiveLine}
 use Rattle.wanted_paths.specs.Paths.{request_of, outline, next_name, hop_edges, link_number, router_number, route_edges}
 use Rattle.wanted_paths.specs.LineFaults.{interface_faults, directive_faults, line_faults, leads_on, broken_faults, TellsResolution}
 use Rattle.wanted_paths.specs.declared.fault.ResolutionFault.{ResolutionFault}
@@ -32,7 +32,7 @@ added {X} {A} F xs i x before made now all rest within is step is_now so_far =
     ∙ ap (λ (ys : List A). before ++ ys) (sym (next_left F xs i x within is ∙ step)) ∙ so_far
 
 -- a line without a fault, in a resolver of that database
-pub line_fine : (d r : Database) (items : List Item) (i : ℕ) (item : Item) → r ≡ d → i < length items → item ≡ get_or items i item →
+pub line_fine : (d r : Database) (items : List DirectiveLine) (i : ℕ) (item : DirectiveLine) → r ≡ d → i < length items → item ≡ get_or items i item →
     directive_faults r item.line item.what ≡ [] → line_faults d (drop i items) ≡ line_faults d items → line_faults d (drop (i + 1) items) ≡ line_faults d items
 line_fine d r items i item same within is none left =
     no_fault (line_faults d) items i item (directive_faults d item.line item.what) (line_faults d items) (line_faults d (drop (i + 1) items)) within is refl
@@ -43,12 +43,15 @@ kept_first None xs = refl
 kept_first (Some x) xs = refl
 
 -- the request of a line is added, if there is one
-pub request_added : (d r : Database) (items : List Item) (i : ℕ) (item : Item) (before now : List Request) → r ≡ d → i < length items → item ≡ get_or items i item →
+pub request_added : (d r : Database) (items : List DirectiveLine) (i : ℕ) (item : DirectiveLine) (before now : List Request) → r ≡ d → i < length items →
+    item ≡ get_or items i item →
     now ≡ before ++ option_to_list (request_of r (outline r) item.what) →
-    before ++ filter_map (λ (line : Item). request_of d (outline d) line.what) (drop i items) ≡ filter_map (λ (line : Item). request_of d (outline d) line.what) items →
-    now ++ filter_map (λ (line : Item). request_of d (outline d) line.what) (drop (i + 1) items) ≡ filter_map (λ (line : Item). request_of d (outline d) line.what) items
+    before ++ filter_map (λ (line : DirectiveLine). request_of d (outline d) line.what) (drop i items) ≡
+    filter_map (λ (line : DirectiveLine). request_of d (outline d) line.what) items →
+    now ++ filter_map (λ (line : DirectiveLine). request_of d (outline d) line.what) (drop (i + 1) items) ≡
+    filter_map (λ (line : DirectiveLine). request_of d (outline d) line.what) items
 request_added d r items i item before now same within is is_now so_far =
-    let wants : Item → Option Request = λ line. request_of d (outline d) line.what in
+    let wants : DirectiveLine → Option Request = λ line. request_of d (outline d) line.what in
     added (filter_map wants) items i item before (option_to_list (wants item)) now (filter_map wants items) (filter_map wants (drop (i + 1) items)) within is
     (kept_first (wants item) (filter_map wants (drop (i + 1) items)))
     (is_now ∙ ap (λ (b : Database). before ++ option_to_list (request_of b (outline b) item.what)) same) so_far
@@ -85,7 +88,8 @@ next_hop d line hops i hop last next leads within is on tests =
     (sym (tests ∙ ap (leads_on d hop) behind))
 
 pub hop_leads : (d : Database) (line : ℕ) (hops : List (List ℕ × List ℕ)) (i : ℕ) (hop : List ℕ × List ℕ) (last next : List ℕ) (leads : Bool) →
-    i < length hops → hop ≡ get_or hops i hop → next ≡ next_name (take (length hops - (i + 1)) (drop (i + 1) hops)) last → leads ≡ leads_on d hop next → leads ≡ true →
+    i < length hops → hop ≡ get_or hops i hop → next ≡ next_name (take (length hops - (i + 1)) (drop (i + 1) hops)) last → leads ≡ leads_on d hop next →
+    leads ≡ true →
     broken_faults d line (i + 1) (drop i hops) last ≡ broken_faults d line 1 hops last →
     broken_faults d line (i + 1 + 1) (drop (i + 1) hops) last ≡ broken_faults d line 1 hops last
 hop_leads d line hops i hop last next leads within is on tests holds left =
@@ -94,7 +98,8 @@ hop_leads d line hops i hop last next leads within is on tests holds left =
 
 pub hop_broken : (d : Database) (line : ℕ) (hops : List (List ℕ × List ℕ)) (i : ℕ) (hop : List ℕ × List ℕ) (last next : List ℕ) (leads : Bool)
     (stop : Refusal ResolutionFault (Unit {0})) →
-    i < length hops → hop ≡ get_or hops i hop → next ≡ next_name (take (length hops - (i + 1)) (drop (i + 1) hops)) last → leads ≡ leads_on d hop next → leads ≡ false →
+    i < length hops → hop ≡ get_or hops i hop → next ≡ next_name (take (length hops - (i + 1)) (drop (i + 1) hops)) last → leads ≡ leads_on d hop next →
+    leads ≡ false →
     broken_faults d line (i + 1) (drop i hops) last ≡ broken_faults d line 1 hops last → TellsResolution (Some (BrokenPath line (i + 1))) stop →
     TellsResolution (first_of (broken_faults d line 1 hops last)) stop
 hop_broken d line hops i hop last next leads stop within is on tests fails left tells =
@@ -113,7 +118,8 @@ pub none_at_all : {X A : Type 0} → (F : List X → List A) (xs : List X) (i : 
 none_at_all {X} {A} F xs i none done left = sym left ∙ at_drop_all F xs i done ∙ none
 
 -- and all is made
-pub all_made : {X A : Type 0} → (F : List X → List A) (xs : List X) (i : ℕ) (made : List A) → F [] ≡ [] → length xs ≤ i → made ++ F (drop i xs) ≡ F xs → made ≡ F xs
+pub all_made : {X A : Type 0} → (F : List X → List A) (xs : List X) (i : ℕ) (made : List A) → F [] ≡ [] → length xs ≤ i → made ++ F (drop i xs) ≡ F xs →
+    made ≡ F xs
 all_made {X} {A} F xs i made none done so_far =
     sym (append-nil made) ∙ ap (λ (ys : List A). made ++ ys) (sym (at_drop_all F xs i done ∙ none)) ∙ so_far
 

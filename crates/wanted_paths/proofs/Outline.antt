@@ -14,11 +14,11 @@ use Rattle.lsdb_build.specs.declared.Far.{Far}
 use Rattle.lsdb_build.specs.declared.Far.TheVariants.{Router as ToRouter, Subnet as ToSubnet}
 use Rattle.lsdb_build.specs.declared.Linked.{Linked}
 use Rattle.lsdb_build.specs.Graphs.{Database, graph_at, link_edges}
-use Rattle.request_reader.specs.declared.Part.{Part}
-use Rattle.request_reader.specs.declared.Part.TheVariants.{Router, Interface}
+use Rattle.request_reader.specs.declared.Excluded.{Excluded}
+use Rattle.request_reader.specs.declared.Excluded.TheVariants.{Router, Interface}
 use Rattle.request_reader.specs.declared.Directive.{Directive}
 use Rattle.request_reader.specs.declared.Directive.TheVariants.{FreeAll, Free, Fix, Path, SymmetricAll, Symmetric}
-use Rattle.request_reader.specs.declared.Item.{Item}
+use Rattle.request_reader.specs.declared.DirectiveLine.{DirectiveLine}
 use Rattle.request_reader.specs.WrittenRoutes.{Route}
 use Rattle.wanted_paths.specs.Paths.{next_name, router_number, link_number, edge_between, hop_edges, route_edges, link_excludes, excludes, excluded_edges, request_of}
 use Rattle.wanted_paths.specs.Resolution.{is_none_twice, is_loop_free}
@@ -101,17 +101,18 @@ link_excludes_same d g h l (Some link) e same = by_far link.link_back link.to
     by_far None (ToSubnet s) = rw (same.from e, same.to e) refl
     by_far (Some m) (ToSubnet s) = rw (same.from e, same.to e) refl
 
-excludes_same : (d : Database) (g h : Area) (e : ℕ) (part : Part) → SameEnds g h → excludes d g e part ≡ excludes d h e part
+excludes_same : (d : Database) (g h : Area) (e : ℕ) (part : Excluded) → SameEnds g h → excludes d g e part ≡ excludes d h e part
 excludes_same d g h e (Router name) same = rw (same.from e, same.to e) refl
 excludes_same d g h e (Interface router interface) same =
     let l = link_number d router interface in
     link_excludes_same d g h l (slice_get d.links l) e same
 
-any_excludes_same : (d : Database) (g h : Area) (e : ℕ) (parts : List Part) → SameEnds g h → list_any (excludes d g e) parts ≡ list_any (excludes d h e) parts
+any_excludes_same : (d : Database) (g h : Area) (e : ℕ) (parts : List Excluded) → SameEnds g h →
+    list_any (excludes d g e) parts ≡ list_any (excludes d h e) parts
 any_excludes_same d g h e [] same = refl
 any_excludes_same d g h e (part ∷ parts) same = rw (excludes_same d g h e part same, any_excludes_same d g h e parts same) refl
 
-pub excluded_same : (d : Database) (g h : Area) (parts : List Part) → SameEnds g h → excluded_edges d g parts ≡ excluded_edges d h parts
+pub excluded_same : (d : Database) (g h : Area) (parts : List Excluded) → SameEnds g h → excluded_edges d g parts ≡ excluded_edges d h parts
 excluded_same d g h parts same =
     filter-numbers_from-agree (λ e. list_any (excludes d g e) parts) (λ e. list_any (excludes d h e) parts) 0 (length g.edges)
     (λ e above below. any_excludes_same d g h e parts same)
@@ -126,7 +127,7 @@ request_same d g h SymmetricAll same = refl
 request_same d g h (Symmetric router interface) same = refl
 
 -- the requests of lines are the same in both graphs
-pub requests_same : (d : Database) (g h : Area) (items : List Item) → SameEnds g h →
+pub requests_same : (d : Database) (g h : Area) (items : List DirectiveLine) → SameEnds g h →
     filter_map (λ item. request_of d g item.what) items ≡ filter_map (λ item. request_of d h item.what) items
 requests_same d g h [] same = refl
 requests_same d g h (item ∷ items) same = rw (request_same d g h item.what same, requests_same d g h items same) refl

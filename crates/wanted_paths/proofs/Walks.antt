@@ -32,7 +32,8 @@ well_from false fault some = absurd (clash some)
     clash h = cc
 
 -- what tells the first of some faults tells the first where others come after them
-pub tells_front : (xs ys : List ResolutionFault) (stop : Refusal ResolutionFault (Unit {0})) → TellsResolution (first_of xs) stop → TellsResolution (first_of (xs ++ ys)) stop
+pub tells_front : (xs ys : List ResolutionFault) (stop : Refusal ResolutionFault (Unit {0})) → TellsResolution (first_of xs) stop →
+    TellsResolution (first_of (xs ++ ys)) stop
 tells_front [] ys (Refused told place) tells = absurd (cc)
 tells_front [] ys OutOfMemory tells = tt
 tells_front (x ∷ xs) ys stop tells = tells

@@ -1,13 +1,14 @@
--- The faults of what a path goes without.
-use Rattle.std.proofs.Common.{◌≡◌, ℕ, refl, sym, ◌∙◌, ap, subst, List, [], ◌++◌, length, Bool, false}
-use Rattle.std.specs.Prelude.{slice_index_or, not, ◌||◌}
+-- The faults of what a path excludes.
+use Rattle.std.proofs.Common.{◌≡◌, ℕ, refl, sym, ◌∙◌, ap, subst, List, [], ◌++◌, length, Bool}
+use Rattle.std.specs.Prelude.{not, ◌||◌}
 use Rattle.std.specs.List.{list_any}
 use Rattle.cost_base.proofs.ListLemmas.{append-none}
+use Rattle.cost_base.specs.Marks.{is_marked}
 use Rattle.area_graph.specs.Area.{Area}
 use Rattle.area_graph.specs.Distances.{AreEdgeMarks}
 use Rattle.area_graph.proofs.Visits.{joined_known}
 use Rattle.lsdb_build.specs.Graphs.{Database, IsAreaDatabase}
-use Rattle.request_reader.specs.declared.Part.{Part}
+use Rattle.request_reader.specs.declared.Excluded.{Excluded}
 use Rattle.wanted_paths.specs.declared.routes.Walk.{Walk}
 use Rattle.request_reader.specs.WrittenRoutes.{Route}
 use Rattle.wanted_paths.specs.Paths.{next_name, router_number, route_edges}
@@ -35,13 +36,13 @@ walk_simple d line route base none =
     (hops_joined d line 1 route.hops route.last parts.1) (well_from free (LoopPath line) whole.1)
 
 -- the edges of the outline that are excluded, as a list and as marks
-pub record AreExcluded (d : Database) (parts : List Part) (excluded : List ℕ) (marks : List Bool) : Type 0 where
+pub record AreExcluded (d : Database) (parts : List Excluded) (excluded : List ℕ) (marks : List Bool) : Type 0 where
   pub are : AreEdgeMarks excluded marks
   pub all : excluded ≡ excluded_by_all d (outline d) parts
   pub count : length marks ≡ length (outline d).edges
 
 -- the marks that were set by a list as it was lent
-pub excluded_marks : (d : Database) (g : Area) (parts : List Part) (lent excluded : List ℕ) (old marks : List Bool) →
+pub excluded_marks : (d : Database) (g : Area) (parts : List Excluded) (lent excluded : List ℕ) (old marks : List Bool) →
     g ≡ outline d → lent ≡ excluded → AreEdgeMarks lent marks → excluded ≡ excluded_by_all d g parts →
     length marks ≡ length old → length old ≡ length g.edges → AreExcluded d parts excluded marks
 excluded_marks d g parts lent excluded old marks graph same are all kept count = record {
@@ -50,11 +51,11 @@ excluded_marks d g parts lent excluded old marks graph same are all kept count =
   count = kept ∙ count ∙ ap (λ (h : Area). length h.edges) graph;
 }
 
-pub without_faults_are : (d : Database) (line : ℕ) (route : Route) (walk : Walk) (parts : List Part) (excluded : List ℕ)
+pub without_faults_are : (d : Database) (line : ℕ) (route : Route) (walk : Walk) (parts : List Excluded) (excluded : List ℕ)
     (marks : List Bool) (tested : Bool) → IsAreaDatabase d → IsWalk d route walk → walk_faults d line route ≡ [] →
     parts_faults d line parts ≡ [] → AreExcluded d parts excluded marks →
     tested ≡ (list_any (is_router_part (next_name route.hops route.last)) parts
-    || list_any (λ e. slice_index_or marks e false) walk.path.edges) →
+    || list_any (is_marked marks) walk.path.edges) →
     without_faults d line route parts ≡ fault_unless (not tested) (PathExcluded line)
 without_faults_are d line route walk parts excluded marks tested base is walks words excluded_are tests =
     let simple = walk_simple d line route base walks in
@@ -65,5 +66,5 @@ without_faults_are d line route walk parts excluded marks tested base is walks w
     =
     ap (λ b. start || b) (sym (path_marked d (outline d) parts excluded marks edges excluded_are.are excluded_are.all
     excluded_are.count within)
-    ∙ ap (λ (es : List ℕ). list_any (λ e. slice_index_or marks e false) es) (sym is.edges)) ∙ sym tests in
+    ∙ ap (λ (es : List ℕ). list_any (is_marked marks) es) (sym is.edges)) ∙ sym tests in
     rw (words, same) refl

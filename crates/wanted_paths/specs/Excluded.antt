@@ -5,8 +5,8 @@ use Rattle.lsdb_build.specs.declared.Far.{Far}
 use Rattle.lsdb_build.specs.declared.Far.TheVariants.{Router as ToRouter, Subnet as ToSubnet}
 use Rattle.lsdb_build.specs.declared.Linked.{Linked}
 use Rattle.lsdb_build.specs.Graphs.{Database}
-use Rattle.request_reader.specs.declared.Part.{Part}
-use Rattle.request_reader.specs.declared.Part.TheVariants.{Router, Interface}
+use Rattle.request_reader.specs.declared.Excluded.{Excluded}
+use Rattle.request_reader.specs.declared.Excluded.TheVariants.{Router, Interface}
 use Rattle.wanted_paths.specs.Paths.{link_number, router_number}
 
 -- the edge to the router from what a link of it leads to, where that is a transit subnet
@@ -24,13 +24,13 @@ excluded_at d g l None = []
 excluded_at d g l (Some link) = excluded_by_link d g l link
 
 -- the edges that one part excludes
-abbrev pub excluded_by : Database → Area → Part → List ℕ
+abbrev pub excluded_by : Database → Area → Excluded → List ℕ
 excluded_by d g (Router name) = edges_out g (router_number d name) ++ edges_in g (router_number d name)
 excluded_by d g (Interface router interface) =
     let l = link_number d router interface in
     excluded_at d g l (slice_get d.links l)
 
 -- the edges that the parts exclude, part by part
-abbrev pub excluded_by_all : Database → Area → List Part → List ℕ
+abbrev pub excluded_by_all : Database → Area → List Excluded → List ℕ
 excluded_by_all d g [] = []
 excluded_by_all d g (part ∷ parts) = excluded_by d g part ++ excluded_by_all d g parts

@@ -3,7 +3,7 @@ use Rattle.std.specs.Prelude.{ℕ}
 use Rattle.wanted_paths.specs.declared.fault.ResolutionFault.{ResolutionFault}
 use Rattle.wanted_paths.specs.declared.fault.ResolutionFault.TheVariants.{UnknownRouter, UnknownInterface, NotALink, BrokenPath, LoopPath, PathExcluded, EndsDiffer, TooManyVariables, NoCost}
 
--- the number of a fault
+-- the number of a fault of requests that don't resolve
 abbrev pub resolution_fault_number : ResolutionFault → ℕ
 resolution_fault_number (UnknownRouter line) = 21
 resolution_fault_number (UnknownInterface line) = 22

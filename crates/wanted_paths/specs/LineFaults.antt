@@ -6,11 +6,11 @@ use Rattle.cost_base.specs.declared.refusal.Refusal.{Refusal}
 use Rattle.cost_base.specs.declared.refusal.Refusal.TheVariants.{Refused, OutOfMemory}
 use Rattle.lsdb_build.specs.declared.Linked.{Linked}
 use Rattle.lsdb_build.specs.Graphs.{Database}
-use Rattle.request_reader.specs.declared.Part.{Part}
-use Rattle.request_reader.specs.declared.Part.TheVariants.{Router, Interface}
+use Rattle.request_reader.specs.declared.Excluded.{Excluded}
+use Rattle.request_reader.specs.declared.Excluded.TheVariants.{Router, Interface}
 use Rattle.request_reader.specs.declared.Directive.{Directive}
 use Rattle.request_reader.specs.declared.Directive.TheVariants.{FreeAll, Free, Fix, Path, SymmetricAll, Symmetric}
-use Rattle.request_reader.specs.declared.Item.{Item}
+use Rattle.request_reader.specs.declared.DirectiveLine.{DirectiveLine}
 use Rattle.request_reader.specs.WrittenRoutes.{Route}
 use Rattle.wanted_paths.specs.declared.fault.ResolutionFault.{ResolutionFault}
 use Rattle.wanted_paths.specs.declared.fault.ResolutionFault.TheVariants.{UnknownRouter, UnknownInterface, NotALink, BrokenPath, LoopPath, PathExcluded}
@@ -37,12 +37,12 @@ hop_faults d line [] last = router_faults d line last
 hop_faults d line (hop ∷ hops) last = interface_faults d line hop.0 hop.1 ++ hop_faults d line hops last
 
 -- the faults of one word behind `without`
-abbrev pub part_faults : Database → ℕ → Part → List ResolutionFault
+abbrev pub part_faults : Database → ℕ → Excluded → List ResolutionFault
 part_faults d line (Router router) = router_faults d line router
 part_faults d line (Interface router interface) = interface_faults d line router interface
 
 -- the faults of the words behind `without`, in their order
-abbrev pub parts_faults : Database → ℕ → List Part → List ResolutionFault
+abbrev pub parts_faults : Database → ℕ → List Excluded → List ResolutionFault
 parts_faults d line [] = []
 parts_faults d line (part ∷ parts) = part_faults d line part ++ parts_faults d line parts
 
@@ -59,12 +59,12 @@ broken_faults d line number (hop ∷ hops) last =
     (if leads_on d hop (next_name hops last) then [] else BrokenPath line number ∷ []) ++ broken_faults d line (number + 1) hops last
 
 -- the part is the router of this name
-abbrev pub is_router_part : List ℕ → Part → Bool
+abbrev pub is_router_part : List ℕ → Excluded → Bool
 is_router_part name (Router router) = same_bytes router name
 is_router_part name (Interface router interface) = false
 
 -- the path's start is excluded, or an edge of the path
-abbrev pub is_path_excluded : Database → Route → List Part → Bool
+abbrev pub is_path_excluded : Database → Route → List Excluded → Bool
 is_path_excluded d route parts =
     list_any (is_router_part (next_name route.hops route.last)) parts
     || list_any (λ e. list_any (excludes d (outline d) e) parts) (route_edges d (outline d) route.hops route.last)
@@ -77,11 +77,11 @@ walk_faults d line route =
     ++ fault_unless (is_loop_free d (outline d) route) (LoopPath line)
 
 -- the faults of the words after `without`, one by one, and then that they exclude an edge or the start of the path
-abbrev pub without_faults : Database → ℕ → Route → List Part → List ResolutionFault
+abbrev pub without_faults : Database → ℕ → Route → List Excluded → List ResolutionFault
 without_faults d line route parts = parts_faults d line parts ++ fault_unless (not (is_path_excluded d route parts)) (PathExcluded line)
 
 -- the faults of a `path` line: of the path, then of what is excluded
-abbrev pub path_faults : Database → ℕ → Route → List Part → List ResolutionFault
+abbrev pub path_faults : Database → ℕ → Route → List Excluded → List ResolutionFault
 path_faults d line route parts = walk_faults d line route ++ without_faults d line route parts
 
 -- The faults of lines.
@@ -106,7 +106,7 @@ directive_faults d line (Symmetric router interface) =
     interface_faults d line router interface ++ fault_unless (has_link_back (slice_get d.links (link_number d router interface))) (NotALink line)
 
 -- the faults of all lines, in their order
-abbrev pub line_faults : Database → List Item → List ResolutionFault
+abbrev pub line_faults : Database → List DirectiveLine → List ResolutionFault
 line_faults d [] = []
 line_faults d (item ∷ items) = directive_faults d item.line item.what ++ line_faults d items
 

@@ -9,8 +9,8 @@ use Rattle.lsdb_build.specs.declared.Far.TheVariants.{Router as ToRouter, Subnet
 use Rattle.lsdb_build.specs.declared.Linked.{Linked}
 use Rattle.lsdb_build.specs.Graphs.{Database, graph_at}
 use Rattle.design_problem.specs.declared.problem.Request.{Request}
-use Rattle.request_reader.specs.declared.Part.{Part}
-use Rattle.request_reader.specs.declared.Part.TheVariants.{Router, Interface}
+use Rattle.request_reader.specs.declared.Excluded.{Excluded}
+use Rattle.request_reader.specs.declared.Excluded.TheVariants.{Router, Interface}
 use Rattle.request_reader.specs.declared.Directive.{Directive}
 use Rattle.request_reader.specs.declared.Directive.TheVariants.{Path}
 
@@ -73,14 +73,14 @@ link_excludes d g l (Some link) e = e == l || link_back_excludes link.link_back 
     far_excludes (ToSubnet s) = (edge_at g e).from == length d.routers + s && (edge_at g e).to == link.router
 
 -- a part excludes the edge: its router is at one of the edge's ends, or the link of its interface excludes the edge
-abbrev pub excludes : Database → Area → ℕ → Part → Bool
+abbrev pub excludes : Database → Area → ℕ → Excluded → Bool
 excludes d g e (Router name) = (edge_at g e).from == router_number d name || (edge_at g e).to == router_number d name
 excludes d g e (Interface router interface) =
     let l = link_number d router interface in
     link_excludes d g l (slice_get d.links l) e
 
 -- the numbers of the edges that the parts exclude, in rising order
-abbrev pub excluded_edges : Database → Area → List Part → List ℕ
+abbrev pub excluded_edges : Database → Area → List Excluded → List ℕ
 excluded_edges d g parts = filter (λ e. list_any (excludes d g e) parts) (numbers_from 0 (length g.edges))
 
 -- the request of a `path` line: the edges between its ends, and its excluded edges

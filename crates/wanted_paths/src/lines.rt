@@ -13,7 +13,7 @@ use crate::paths::Resolver;
 use area_graph::Graph;
 use cost_base::Refusal;
 use design_problem::Request;
-use request_reader::{Directive, Item};
+use request_reader::{Directive, DirectiveLine};
 use std::alloc::Global;
 
 /// Whether the link of a number is one of a point-to-point subnet.
@@ -42,10 +42,7 @@ fn check_symmetric(
 {
     let number = names.link(line, router, interface)?;
     if !has_link_back(names, number) {
-        return Err(Refusal::Refused {
-            fault: ResolutionFault::NotALink { line },
-            place: (),
-        });
+        return Err(Refusal::at((), ResolutionFault::NotALink { line }));
     }
     Ok(())
 }
@@ -53,7 +50,7 @@ fn check_symmetric(
 /// Appends the request of a line, where it wants a path; the line's first fault where it doesn't resolve.
 fn push_request(
     resolver: &mut Resolver,
-    item: &Item,
+    item: &DirectiveLine,
     made: &mut Vec<Request>,
 ) -> Result<(), Refusal<ResolutionFault, ()>>
     ensures resolves { OnOk result (directive_faults resolver.old item.now.line item.now.what ≡
@@ -68,9 +65,7 @@ fn push_request(
     match &item.what {
         Directive::Path(route, parts) => {
             let request = resolver.path(line, route, parts.as_slice())?;
-            if made.push(request).is_err() {
-                return Err(Refusal::OutOfMemory);
-            }
+            made.push(request)?;
         }
         Directive::Free(router, interface, _, _) => {
             resolver
@@ -105,7 +100,7 @@ pub fn resolve_lines(
     alloc: Global,
     names: &Names,
     graph: &Graph,
-    items: &[Item],
+    items: &[DirectiveLine],
 ) -> Result<Vec<Request>, Refusal<ResolutionFault, ()>>
     requires { graph.now ≡ outline names.now }
     ensures made { IfOk result (λ made. (line_faults names.now items.now ≡ []) ×

@@ -175,10 +175,7 @@ impl<'a> Names<'a> {
     {
         match self.find_router(name) {
             Some(router) => Ok(router),
-            None => Err(Refusal::Refused {
-                fault: ResolutionFault::UnknownRouter { line },
-                place: (),
-            }),
+            None => Err(Refusal::at((), ResolutionFault::UnknownRouter { line })),
         }
     }
 
@@ -203,10 +200,7 @@ impl<'a> Names<'a> {
         let number = self.router(line, router)?;
         match self.find_link(number, interface) {
             Some(link) => Ok(link),
-            None => Err(Refusal::Refused {
-                fault: ResolutionFault::UnknownInterface { line },
-                place: (),
-            }),
+            None => Err(Refusal::at((), ResolutionFault::UnknownInterface { line })),
         }
     }
 

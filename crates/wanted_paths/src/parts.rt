@@ -1,7 +1,8 @@
-//! Resolves what a wanted path goes without.
-ghost use Rattle.std.specs.Prelude.{◌≡◌, ◌+◌, ◌^◌, ◌<◌, ◌==◌, ◌++◌, [], ◌∷◌, Some, false, filter, length, slice_get, slice_index_or, IfOk, IfErr, OnOk};
+//! Resolves what a wanted path excludes.
+ghost use Rattle.std.specs.Prelude.{◌≡◌, ◌+◌, ◌^◌, ◌<◌, ◌==◌, ◌++◌, [], Some, false, filter, length, slice_get, IfOk, IfErr, OnOk};
 ghost use Rattle.std.specs.List.{list_any};
 ghost use Rattle.cost_base.specs.Lists.{first_of, numbers_from};
+ghost use Rattle.cost_base.specs.Marks.{is_marked, numbers_marked};
 ghost use Rattle.area_graph.specs.Area.{edge_at, edges_out, edges_in};
 ghost use Rattle.lsdb_build.specs.Graphs.{IsFar};
 ghost use Rattle.wanted_paths.specs.LineFaults.{part_faults, parts_faults, is_router_part, TellsResolution};
@@ -12,9 +13,9 @@ use crate::ResolutionFault;
 use crate::names::Names;
 use crate::routes::subnet_vertex;
 use area_graph::{Graph, far_end};
-use cost_base::{OutOfMemory, Refusal};
+use cost_base::{OutOfMemory, Refusal, is_marked, push_if, push_last, push_some};
 use lsdb_build::{Far, Linked};
-use request_reader::Part;
+use request_reader::Excluded;
 use std::alloc::Global;
 
 /// Appends those of some edges that end at a vertex.
@@ -28,9 +29,7 @@ fn push_into(
         filter (λ e. (edge_at graph.now e).to == vertex) edges.now) }
 {
     for edge in edges {
-        if far_end(graph, *edge) == vertex {
-            excluded.push(*edge)?;
-        }
+        push_if(excluded, *edge, far_end(graph, *edge) == vertex)?;
     }
     Ok(())
 }
@@ -70,10 +69,8 @@ fn push_link(
     ensures { OnOk result (excluded.new.items ≡ excluded.old.items ++
         excluded_by_link names.now graph.now number link.now) }
 {
-    excluded.push(number)?;
-    if let Some(link_back) = link.link_back {
-        excluded.push(link_back)?;
-    }
+    push_last(excluded, number)?;
+    push_some(excluded, link.link_back)?;
     push_from(names, graph, link.router, link.to, excluded)
 }
 
@@ -110,7 +107,7 @@ fn push_part(
     names: &Names,
     graph: &Graph,
     line: u32,
-    part: &Part,
+    part: &Excluded,
     excluded: &mut Vec<u32>,
 ) -> Result<(), Refusal<ResolutionFault, ()>>
     requires { graph.now ≡ outline names.now }
@@ -121,11 +118,11 @@ fn push_part(
         (TellsResolution (first_of (part_faults names.now line part.now))) }
 {
     match part {
-        Part::Router(name) => {
+        Excluded::Router(name) => {
             let router = names.router(line, name.as_bytes())?;
             push_router(graph, router, excluded)?;
         }
-        Part::Interface(router, interface) => {
+        Excluded::Interface(router, interface) => {
             let number = names.link(line, router.as_bytes(), interface.as_bytes())?;
             push_interface(names, graph, number, excluded)?;
         }
@@ -139,7 +136,7 @@ pub fn excluded_by(
     names: &Names,
     graph: &Graph,
     line: u32,
-    parts: &[Part],
+    parts: &[Excluded],
 ) -> Result<Vec<u32>, Refusal<ResolutionFault, ()>>
     requires { graph.now ≡ outline names.now }
     ensures made { IfOk result (λ excluded. (parts_faults names.now line parts.now ≡ []) ×
@@ -155,59 +152,37 @@ pub fn excluded_by(
 }
 
 /// Whether a part is the router of a name.
-fn is_router_part(name: &[u8], part: &Part) -> bool
+fn is_router_part(name: &[u8], part: &Excluded) -> bool
     ensures { result ≡ is_router_part name.now part.now }
 {
     match part {
-        Part::Router(router) => router.as_bytes() == name,
-        Part::Interface(_, _) => false,
+        Excluded::Router(router) => router.as_bytes() == name,
+        Excluded::Interface(_, _) => false,
     }
 }
 
 /// Whether one of the parts is the router of a name.
-pub fn has_router(name: &[u8], parts: &[Part]) -> bool
+pub fn has_router(name: &[u8], parts: &[Excluded]) -> bool
     ensures { result ≡ list_any (is_router_part name.now) parts.now }
 {
     parts.iter().any(|part| is_router_part(name, part))
 }
 
-/// Whether an edge is marked.
-fn is_marked(marks: &[bool], edge: u32) -> bool
-    ensures { result ≡ slice_index_or marks.now edge false }
-{
-    match marks.get(edge as usize) {
-        Some(mark) => *mark,
-        None => false,
-    }
-}
-
 /// Whether one of some edges is marked.
 pub fn has_marked(marks: &[bool], edges: &[u32]) -> bool
-    ensures { result ≡ list_any (λ e. slice_index_or marks.now e false) edges.now }
+    ensures { result ≡ list_any (is_marked marks.now) edges.now }
 {
-    edges.iter().any(|edge| is_marked(marks, *edge))
-}
-
-/// Appends an edge that is marked.
-fn push_marked(marks: &[bool], edge: u32, found: &mut Vec<u32>) -> Result<(), OutOfMemory>
-    ensures { OnOk result (found.new.items ≡ found.old.items ++
-        filter (λ e. slice_index_or marks.now e false) (edge ∷ [])) }
-{
-    if is_marked(marks, edge) {
-        found.push(edge)?;
-    }
-    Ok(())
+    edges.iter().any(|edge| is_marked(marks, *edge as usize))
 }
 
 /// The numbers of the marked edges, in rising order.
 pub fn marked(alloc: Global, marks: &[bool]) -> Result<Vec<u32>, OutOfMemory>
     requires { length marks.now < 2 ^ 32 }
-    ensures { IfOk result (λ found. found.items ≡ filter (λ e. slice_index_or marks.now e false)
-        (numbers_from 0 (length marks.now))) }
+    ensures { IfOk result (λ found. found.items ≡ numbers_marked marks.now) }
 {
     let mut found = Vec::new(alloc);
     for edge in 0..marks.len() as u32 {
-        push_marked(marks, edge, &mut found)?;
+        push_if(&mut found, edge, is_marked(marks, edge as usize))?;
     }
     Ok(found)
 }

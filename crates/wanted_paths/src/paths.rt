@@ -1,8 +1,9 @@
 //! Resolves wanted paths.
-ghost use Rattle.std.specs.Prelude.{◌≡◌, ◌||◌, [], Some, false, slice_index_or, IfOk, IfErr};
+ghost use Rattle.std.specs.Prelude.{◌≡◌, ◌||◌, [], Some, IfOk, IfErr};
 ghost use Rattle.std.specs.List.{list_any};
 ghost use Rattle.cost_base.specs.Lists.{first_of};
-ghost use Rattle.request_reader.specs.declared.Directive.TheVariants.{Path as WantedPath};
+ghost use Rattle.cost_base.specs.Marks.{is_marked};
+ghost use Rattle.request_reader.specs.declared.Directive.TheVariants.{Path as PathDirective};
 ghost use Rattle.wanted_paths.specs.Paths.{next_name, excluded_edges, request_of};
 ghost use Rattle.wanted_paths.specs.LineFaults.{is_router_part, walk_faults, without_faults, path_faults, TellsResolution};
 ghost use Rattle.wanted_paths.specs.Paths.{outline};
@@ -13,16 +14,16 @@ use crate::names::Names;
 use crate::parts::{excluded_by, has_marked, has_router, marked};
 use crate::routes::{Walk, next_name, resolve_walk};
 use area_graph::{Graph, mark_excluded};
-use cost_base::{Listed, OutOfMemory, Refusal};
+use cost_base::{Listed, OutOfMemory, Refusal, no_marks};
 use design_problem::Request;
-use request_reader::{Hops, Part};
+use request_reader::{Excluded, Hops};
 use std::alloc::Global;
 use std::marker::Model;
 
 /// Whether the start of a walk is excluded, or one of its edges is marked.
-fn is_excluded(route: &Hops, walk: &Walk, parts: &[Part], marks: &[bool]) -> bool
+fn is_excluded(route: &Hops, walk: &Walk, parts: &[Excluded], marks: &[bool]) -> bool
     ensures { result ≡ (list_any (is_router_part (next_name route.now.hops route.now.last))
-        parts.now || list_any (λ e. slice_index_or marks.now e false) walk.now.path.edges) }
+        parts.now || list_any (is_marked marks.now) walk.now.path.edges) }
 {
     let start = next_name(route.as_slice(), route.last().as_bytes());
     has_router(start, parts) || has_marked(marks, walk.path.edges.as_slice())
@@ -63,7 +64,7 @@ impl<'a> Resolver<'a> {
         requires { graph.now ≡ outline names.now }
         ensures { IfOk result (λ resolver. resolver ≡ names.now) }
     {
-        let marks = vec![in alloc; false; graph.edges().len()]?;
+        let marks = no_marks(alloc, graph.edges().len())?;
         Ok(Resolver {
             alloc,
             names,
@@ -89,13 +90,13 @@ impl<'a> Resolver<'a> {
         resolve_walk(self.alloc, self.names, self.graph, line, route)
     }
 
-    /// The edges that a path goes without, in rising order; its first fault where it doesn't resolve.
+    /// The edges that a path excludes, in rising order; its first fault where it doesn't resolve.
     fn without(
         &mut self,
         line: u32,
         route: &Hops,
         walk: &Walk,
-        parts: &[Part],
+        parts: &[Excluded],
     ) -> Result<Vec<u32>, Refusal<ResolutionFault, ()>>
         requires walk { IsWalk self.old route.now walk.now }
         requires walks { walk_faults self.old line route.now ≡ [] }
@@ -112,10 +113,7 @@ impl<'a> Resolver<'a> {
         let excluded = excluded_by(self.alloc, self.names, self.graph, line, parts)?;
         mark_excluded(&mut self.marks, &excluded);
         if is_excluded(route, walk, parts, &self.marks) {
-            return Err(Refusal::Refused {
-                fault: ResolutionFault::PathExcluded { line },
-                place: (),
-            });
+            return Err(Refusal::at((), ResolutionFault::PathExcluded { line }));
         }
         Ok(marked(self.alloc, &self.marks)?)
     }
@@ -125,11 +123,11 @@ impl<'a> Resolver<'a> {
         &mut self,
         line: u32,
         route: &Hops,
-        parts: &[Part],
+        parts: &[Excluded],
     ) -> Result<Request, Refusal<ResolutionFault, ()>>
         ensures made { IfOk result
             (λ request. (path_faults self.old line route.now parts.now ≡ []) ×
-            (request_of self.old (outline self.old) (WantedPath route.now parts.now) ≡
+            (request_of self.old (outline self.old) (PathDirective route.now parts.now) ≡
             Some request)) }
         ensures refused { IfErr result
             (TellsResolution (first_of (path_faults self.old line route.now parts.now))) }

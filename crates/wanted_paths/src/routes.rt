@@ -16,7 +16,7 @@ ghost use Rattle.wanted_paths.specs.Walks.{IsWalk};
 use crate::ResolutionFault;
 use crate::names::Names;
 use area_graph::{Graph, Path, far_end, is_simple};
-use cost_base::{Listed, Name, OutOfMemory, Refusal};
+use cost_base::{Listed, Name, OutOfMemory, Refusal, push_last, push_some};
 use lsdb_build::{Far, Linked};
 use request_reader::Hops;
 use std::alloc::Global;
@@ -89,10 +89,7 @@ fn broken(line: u32, place: usize) -> Refusal<ResolutionFault, ()>
         return Refusal::OutOfMemory;
     }
     let hop = place as u32 + 1;
-    Refusal::Refused {
-        fault: ResolutionFault::BrokenPath { line, hop },
-        place: (),
-    }
+    Refusal::at((), ResolutionFault::BrokenPath { line, hop })
 }
 
 /// Whether each hop leads to the router of the next word; the number of the first one that doesn't. A hop
@@ -161,11 +158,8 @@ fn edge_on(names: &Names, graph: &Graph, link: &Linked, next: u32) -> Option<u32
 fn push_edges(edges: &mut Vec<u32>, number: u32, on: Option<u32>) -> Result<(), OutOfMemory>
     ensures { OnOk result (edges.new.items ≡ edges.old.items ++ number ∷ option_to_list on) }
 {
-    edges.push(number)?;
-    if let Some(edge) = on {
-        edges.push(edge)?;
-    }
-    Ok(())
+    push_last(edges, number)?;
+    push_some(edges, on)
 }
 
 /// Appends the edges of a hop to the router of a name: over a transit subnet there are two.
@@ -267,10 +261,7 @@ pub fn resolve_walk(
     check_hops(names, line, hops, last)?;
     let walk = walk_of(alloc, names, graph, route)?;
     if !is_simple_walk(graph, &walk) {
-        return Err(Refusal::Refused {
-            fault: ResolutionFault::LoopPath { line },
-            place: (),
-        });
+        return Err(Refusal::at((), ResolutionFault::LoopPath { line }));
     }
     Ok(walk)
 }

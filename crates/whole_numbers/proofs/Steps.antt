@@ -1,4 +1,5 @@
--- The small numbers of a step give the exact fraction: what a sum and a product make on their way is the result in lowest terms.
+-- The small numbers of a step give the exact fraction: what a sum and a product make on their way is the result in
+-- lowest terms.
 use Rattle.std.proofs.Common.{◌≡◌, ℕ, zero, suc, ◌*◌, ◌/◌, ◌<◌, refl, sym, ◌∙◌, ap, subst, [], ◌∷◌, arith}
 use Rattle.std.specs.Prelude.{ℤ, pos, negsuc, ◌+ℤ◌, ◌*ℤ◌, nat_abs}
 use Rattle.std.proofs.lemmas.Int.{unsigned_abs-mul}

@@ -180,7 +180,8 @@ above_seen : (p q : Fraction) (g h : ℕ) (x y : ℤ) → Crosses p q g h x y �
     (x *ℤ y) ≡ (exact_quotient p.numerator (gcd (nat_abs p.numerator) q.denominator) *ℤ exact_quotient q.numerator
     (gcd (nat_abs q.numerator) p.denominator))
 above_seen p q g h x y crosses =
-    ap₂ (λ (m n : ℤ). m *ℤ n) (crosses.left ∙ ap (exact_quotient p.numerator) crosses.left_common) (crosses.right ∙ ap (exact_quotient q.numerator) crosses.right_common)
+    ap₂ (λ (m n : ℤ). m *ℤ n) (crosses.left ∙ ap (exact_quotient p.numerator) crosses.left_common)
+    (crosses.right ∙ ap (exact_quotient q.numerator) crosses.right_common)
 
 above_size : (p q : Fraction) (g h : ℕ) (x y : ℤ) → Crosses p q g h x y →
     nat_abs (x *ℤ y) ≡ (nat_abs p.numerator / gcd (nat_abs p.numerator) q.denominator)
@@ -324,4 +325,5 @@ whole_product_answer top a c z a_within z_is within =
 pub whole_answer : (most top : ℕ) (made : List ℕ) (exact q : Fraction) (n : ℤ) → most ≡ top → q ≡ whole n →
     IsExactOrTooWide most made exact (Some (whole n)) → IsExactOrTooWide top made exact (Some q)
 whole_answer most top made exact q n top_is q_is answer =
-    subst (λ (r : Fraction). IsExactOrTooWide top made exact (Some r)) (sym q_is) (subst (λ (t : ℕ). IsExactOrTooWide t made exact (Some (whole n))) top_is answer)
+    subst (λ (r : Fraction). IsExactOrTooWide top made exact (Some r)) (sym q_is) (subst (λ (t : ℕ). IsExactOrTooWide t made exact (Some (whole n))) top_is
+    answer)

@@ -4,7 +4,7 @@ ghost use Rattle.whole_numbers.specs.Fractions.{whole, negated, inverse, reduced
 ghost use Rattle.wide_fraction.specs.Widths.{IsFractionIn127Bits, IsWithin, IsFractionTooWide};
 
 use crate::Top;
-use crate::words::{quotient, signed_quotient, with_sign_of};
+use crate::word_arithmetic::{quotient, signed_quotient, with_sign_of};
 use std::marker::Model;
 use whole_numbers::greatest_common_divisor;
 

@@ -4,7 +4,7 @@ ghost use Rattle.std.specs.Ordering.{MatchOrdering, nat_cmp, int_cmp};
 ghost use Rattle.whole_numbers.specs.Fractions.{order, IsLess, IsSame, IsFloor};
 
 use crate::Frac;
-use crate::words::{quotient, whole_and_rest, word_product};
+use crate::word_arithmetic::{quotient, whole_and_rest, word_product};
 use std::cmp::Ordering;
 
 /// How two fractions are ordered.

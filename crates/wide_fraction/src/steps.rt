@@ -4,7 +4,7 @@ ghost use Rattle.whole_numbers.specs.Fractions.{plus, minus, times, divided, who
 ghost use Rattle.wide_fraction.specs.Widths.{Fits, IsExactOrTooWide, IsWithin};
 ghost use Rattle.wide_fraction.specs.WideSteps.{IsTooWide};
 
-use crate::words::{
+use crate::word_arithmetic::{
     bounded_cross_sum, bounded_product, bounded_signed_product, bounded_sum, quotient,
     signed_quotient,
 };

@@ -68,7 +68,8 @@ form_mixture D n low gs rows basis f long are resolved i =
     let rest : mixture (map (number_of_form D low rows f) (numbers_from 1 n)) basis i ≡ mixture others basis i =
     ap (λ zs. mixture zs basis i) (shifted (number_of_form D low rows f) 0 n ∙ sym (shifted (from_lows f.coefficients rows) 0 n)) in
     ap (λ z. pos D *ℤ z) (resolved i)
-    ∙ ring_by (pos D ∷ value_for_costs f low ∷ coordinate one_form i ∷ mixture f.coefficients gs i ∷ from_lows f.coefficients rows 0 ∷ mixture others basis i ∷ [])
+    ∙ ring_by (pos D ∷ value_for_costs f low ∷ coordinate one_form i ∷ mixture f.coefficients gs i ∷ from_lows f.coefficients rows 0 ∷ mixture others basis i ∷
+    [])
     (var 0 ⊗ (var 1 ⊗ var 2 ⊕ var 3)) ((var 0 ⊗ var 1 ⊕ var 4) ⊗ var 2 ⊕ var 5)
     (using (num (pos 1)) (var 0 ⊗ var 3) (var 4 ⊗ var 2 ⊕ var 5) (lows_mixture D (suc n) f.coefficients gs rows basis i long are) nothing) refl
     ∙ ap (λ z. (((pos D *ℤ value_for_costs f low) +ℤ from_lows f.coefficients rows 0) *ℤ coordinate one_form i) +ℤ z) (sym rest)

@@ -36,15 +36,15 @@ pub one_value : (p : Point) → value_at one_form p ≡ pos p.scale
 one_value p = ring (pos p.scale ∷ []) (num (pos 1) ⊗ var 0 ⊕ num (pos 0)) (var 0) refl
 
 -- A form whose constant is negative and none of whose other entries is positive is negative wherever the basis is met.
-pub stuck_negative : (r : Form) (basis : List Form) (D : ℕ) (m : ℤ) (ms : List ℤ) (p : Point) →
+pub refuting_negative : (r : Form) (basis : List Form) (D : ℕ) (m : ℤ) (ms : List ℤ) (p : Point) →
     IsMixture r basis D (m ∷ ms) → m <ℤ pos 0 → NotAbove ms → AreMet basis p → 0 < p.scale → value_at r p <ℤ pos 0
-stuck_negative r basis D m ms p is below low met scale_positive =
+refuting_negative r basis D m ms p is below low met scale_positive =
     negative_factor D (value_at r p)
     (rw (equation_at r basis D (m ∷ ms) p is)
     (rw (one_value p)
     (sum_negative (m *ℤ pos p.scale) (mixed_at ms basis p) (negative_product m p.scale below scale_positive) (mixed_low ms basis p low met))))
 
--- the sum of a row's numbers, each times the one at its place
+-- the sum of a line's numbers, each times the one at its place
 abbrev pub row_sum : List ℤ → List ℕ → ℤ
 row_sum [] us = pos 0
 row_sum (t ∷ ts) [] = pos 0
@@ -81,7 +81,8 @@ same_lengths : (u : ℕ) (rows : List (List ℤ)) (us : List ℕ) →
 same_lengths u [] us = refl
 same_lengths u (ts ∷ rows) us = ap suc (same_lengths u rows us)
 
--- Columns that lead with a positive number, each times a whole number, add up to a column that doesn't lead with a negative one.
+-- Columns that lead with a positive number, each times a whole number, add up to a column that doesn't lead with a
+-- negative one.
 pub columns_follow : (rows : List (List ℤ)) (us : List ℕ) →
     ((k : ℕ) → k < length us → LeadsPositive (map (λ ts. number_at ts k) rows)) →
     LeadsNoNegative (map (λ ts. row_sum ts us) rows)

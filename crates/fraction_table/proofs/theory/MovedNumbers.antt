@@ -1,5 +1,5 @@
 -- The numbers of forms when a bound moves. Where the bound's form is in the basis, the numbers of all forms at place 0
--- rise by those in its column, times the fall; and a lower bound that moves takes its row's number at place 0 along.
+-- rise by those in its column, times the fall; and a lower bound that moves takes its line's number at place 0 along.
 use Rattle.std.proofs.Common.{◌≡◌, ℕ, zero, suc, ◌+◌, ◌<◌, refl, sym, ◌∙◌, ap, subst, List, [], ◌∷◌, map, length, arith}
 use Rattle.std.specs.Prelude.{ℤ, pos, ◌+ℤ◌, ◌-ℤ◌, ◌*ℤ◌, slice_index, slice_index_or, slice_set}
 use Rattle.whole_numbers.proofs.Ring.{var, num, ◌⊕◌, ◌⊖◌, ◌⊗◌, neg, ring, ring_by, nothing, using}
@@ -130,7 +130,7 @@ raised_numbered D n low bs lows j fall j_in is =
       lead = λ k k_in. subst LeadsPositive (sym (raised_column j k fall lows)) (is.lead k k_in);
     }
 
--- the rows with that of a variable less by z
+-- the lines with that of a variable less by z
 abbrev pub lowered_rows : ℕ → ℤ → List (List ℤ) → List (List ℤ)
 lowered_rows v z rows = slice_set rows v (lowered z (slice_index_or rows v []))
 
@@ -167,7 +167,7 @@ dot_set (c ∷ cs) (l ∷ ls) (suc v) bound v_in =
     ∙ ring (c ∷ pos l ∷ dot cs ls ∷ number_at cs v ∷ pos bound ∷ pos (slice_index ls v) ∷ [])
     (var 0 ⊗ var 1 ⊕ (var 2 ⊕ var 3 ⊗ (var 4 ⊖ var 5))) ((var 0 ⊗ var 1 ⊕ var 2) ⊕ var 3 ⊗ (var 4 ⊖ var 5)) refl
 
--- a lower bound that moves, with its row, leaves the numbers of every form
+-- a lower bound that moves, with its line, leaves the numbers of every form
 pub lowered_number : (D n : ℕ) (low : List ℕ) (lows : List (List ℤ)) (f : Form) (v bound : ℕ) → AllLong (suc n) lows →
     v < length low → v < length lows → (place : ℕ) →
     number_of_form D (slice_set low v bound) (lowered_rows v (pos D *ℤ (pos bound -ℤ pos (slice_index low v))) lows) f place

@@ -2,7 +2,7 @@
 -- entries of every form are known from those of the forms x - low.
 use Rattle.std.proofs.Common.{◌≡◌, ◌≢◌, ℕ, zero, suc, ◌+◌, ◌<◌, ◌≤◌, cond, refl, sym, ◌∙◌, ap, subst, List, [], ◌∷◌, length, arith, inl, inr, zero-add}
 use Rattle.std.specs.Prelude.{ℤ, pos, ◌+ℤ◌, ◌*ℤ◌, neg_ℤ, ◌==◌, slice_index_or, All}
-use Rattle.std.proofs.lemmas.Bool.{cases_lt}
+use Rattle.std.proofs.lemmas.Bool.{cases_lt, eq-eqb, ne_eqb}
 use Rattle.std.proofs.lemmas.List.{get_or_past}
 use Rattle.cost_base.proofs.ListLemmas.{length-map-numbers_from, get_or-map-numbers_from}
 use Rattle.whole_numbers.specs.Fractions.{Fraction, IsLowest}
@@ -10,9 +10,8 @@ use Rattle.whole_numbers.proofs.Ring.{var, num, ◌⊕◌, ◌⊗◌, neg, ring}
 use Rattle.design_problem.specs.declared.form.Form.{Form}
 use Rattle.design_problem.specs.Forms.{dot, value_for_costs}
 use Rattle.design_problem.specs.Basis.{AreEntries, coordinate, mixture, one_form, unit}
-use Rattle.fraction_rows.specs.TableRows.{AreTableNumbers}
+use Rattle.fraction_lines.specs.TableLines.{AreTableNumbers}
 use Rattle.fraction_table.specs.ValidTables.{number_of_form, numbers_of_form, AllLong, AreMixtures, low_forms, Stand}
-use Rattle.fraction_rows.proofs.Columns.{same_test, other_test}
 use Rattle.fraction_table.proofs.theory.Blends.{form_mixture}
 
 unit_at : (n own u : ℕ) → u < n → slice_index_or (unit n own (pos 1)) u (pos 0) ≡ cond (u == own) (pos 1) (pos 0)
@@ -25,12 +24,12 @@ unit_past n own u past =
     get_or_past (unit n own (pos 1)) u (pos 0) (omega arith)
 
 pub unit_same : (n own : ℕ) → own < n → slice_index_or (unit n own (pos 1)) own (pos 0) ≡ pos 1
-unit_same n own var_in = unit_at n own own var_in ∙ ap (λ b. cond b (pos 1) (pos 0)) (same_test own own refl)
+unit_same n own var_in = unit_at n own own var_in ∙ ap (λ b. cond b (pos 1) (pos 0)) (eq-eqb own own refl)
 
 pub unit_other : (n own u : ℕ) → u ≢ own → slice_index_or (unit n own (pos 1)) u (pos 0) ≡ pos 0
 unit_other n own u other =
     elim (cases_lt u n) [
-      | inl within ↦ unit_at n own u within ∙ ap (λ b. cond b (pos 1) (pos 0)) (other_test u own other)
+      | inl within ↦ unit_at n own u within ∙ ap (λ b. cond b (pos 1) (pos 0)) (ne_eqb u own other)
       | inr past ↦ unit_past n own u past
     ]
 

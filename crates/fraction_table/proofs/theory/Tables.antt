@@ -66,7 +66,8 @@ from_corner D e us (l ∷ low) [] xs ys corner resolves = absurd corner
 from_corner D e us (l ∷ low) (ts ∷ rows) [] ys corner resolves = absurd corner
 from_corner D e us (l ∷ low) (ts ∷ rows) (x ∷ xs) [] corner resolves = absurd resolves
 
--- Where each column leads with a positive number, no point at which the forms of the basis aren't negative comes before the corner.
+-- Where each column leads with a positive number, no point at which the forms of the basis aren't negative comes before
+-- the corner.
 pub corner_least : (D e : ℕ) (us low : List ℕ) (rows : List (List ℤ)) (xs ys : List ℕ) → IsCorner D low rows xs →
     Resolves D e us low rows ys → ((k : ℕ) → k < length us → LeadsPositive (map (λ ts. number_at ts (suc k)) rows)) →
     LexLess (map (λ y. y * D) ys) (map (λ x. x * e) xs) → ⊥

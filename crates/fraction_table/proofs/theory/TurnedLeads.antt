@@ -109,7 +109,8 @@ leads_turned n a D lows rs cs j counted long at_j a_positive D_positive j_in own
           (scaled_leads D (numbers_in_column (suc j) lows) D_positive (lead j j_in)))
       | inr other ↦
           subst LeadsPositive (sym (column_other a D lows rs (suc j) (suc k) long at_j (λ h. other (suc_inj h)) (omega (arith, counted))))
-          (by_sign (number_at rs (suc k)) (LeadsPositive (turned_column a (numbers_in_column (suc k) lows) (number_at rs (suc k)) (numbers_in_column (suc j) lows)))
+          (by_sign (number_at rs (suc k)) (LeadsPositive (turned_column a (numbers_in_column (suc k) lows) (number_at rs (suc k))
+          (numbers_in_column (suc j) lows)))
           (λ u low. turned_leads a (numbers_in_column (suc k) lows) u (number_at rs (suc k)) (numbers_in_column (suc j) lows)
           a_positive low (length-numbers_in (suc k) lows (suc j)) (lead k k_in) (lead j j_in))
           (λ high. least_leads a D (number_at rs (suc k)) (suc k) (suc j) cs lows D_positive high own

@@ -94,7 +94,8 @@ own_turned n D a low lows bs r rs j e as_many own elsewhere k k_in =
       | inl same ↦
           subst (λ (i : ℕ). number_of_form (D * a) low (turned_rows lows rs (suc j) D)
           (slice_index_or (slice_set bs j r) i no_form) (suc i) ≡ pos (D * a)) (sym same)
-          (ap (λ (f : Form). number_of_form (D * a) low (turned_rows lows rs (suc j) D) f (suc j)) (get_or-set_same bs j r no_form (omega (arith, as_many, e.j_in)))
+          (ap (λ (f : Form). number_of_form (D * a) low (turned_rows lows rs (suc j) D) f (suc j))
+          (get_or-set_same bs j r no_form (omega (arith, as_many, e.j_in)))
           ∙ number_same D a low lows r rs j e.long (omega (arith, e.counted, e.j_in))
           ∙ ap (λ z. z *ℤ pos D) (e.numbers (suc j) (omega (arith, e.counted, e.j_in)) ∙ e.at_j)
           ∙ ring (pos a ∷ pos D ∷ []) (var 0 ⊗ var 1) (var 1 ⊗ var 0) refl)
@@ -116,7 +117,8 @@ elsewhere_turned n D a low lows bs r rs j e as_many elsewhere k place k_in place
     elim (cases_eq k j) [
       | inl same ↦
           ap (λ (i : ℕ). number_of_form (D * a) low (turned_rows lows rs (suc j) D) (slice_index_or (slice_set bs j r) i no_form) place) same
-          ∙ ap (λ (f : Form). number_of_form (D * a) low (turned_rows lows rs (suc j) D) f place) (get_or-set_same bs j r no_form (omega (arith, as_many, e.j_in)))
+          ∙ ap (λ (f : Form). number_of_form (D * a) low (turned_rows lows rs (suc j) D) f place)
+          (get_or-set_same bs j r no_form (omega (arith, as_many, e.j_in)))
           ∙ enters D a low lows r rs j place e.long e.at_j e.numbers (λ h. apart (h ∙ ap suc (sym same)))
           (omega (arith, e.counted, place_in)) (omega (arith, e.counted, e.j_in))
       | inr other ↦

@@ -56,7 +56,8 @@ pub number_other : (D a : ℕ) (low : List ℕ) (rows : List (List ℤ)) (f : Fo
     ≡ ((number_of_form D low rows f place *ℤ pos a) -ℤ (number_of_form D low rows f (suc j) *ℤ number_at rs place))
 number_other D a low rows f rs j zero long at_j other place_in =
     ap (λ z. (pos (D * a) *ℤ value_for_costs f low) +ℤ z) (lows_other f.coefficients rows rs (suc j) D zero long other place_in)
-    ∙ ap (λ z. (pos (D * a) *ℤ value_for_costs f low) +ℤ ((from_lows f.coefficients rows 0 *ℤ z) -ℤ (from_lows f.coefficients rows (suc j) *ℤ number_at rs 0))) at_j
+    ∙ ap (λ z. (pos (D * a) *ℤ value_for_costs f low) +ℤ ((from_lows f.coefficients rows 0 *ℤ z) -ℤ (from_lows f.coefficients rows (suc j) *ℤ number_at rs 0)))
+    at_j
     ∙ ring (pos D ∷ pos a ∷ value_for_costs f low ∷ from_lows f.coefficients rows 0 ∷ from_lows f.coefficients rows (suc j) ∷ number_at rs 0 ∷ [])
     ((var 0 ⊗ var 1) ⊗ var 2 ⊕ ((var 3 ⊗ var 1) ⊖ (var 4 ⊗ var 5)))
     (((var 0 ⊗ var 2 ⊕ var 3) ⊗ var 1) ⊖ (var 4 ⊗ var 5)) refl

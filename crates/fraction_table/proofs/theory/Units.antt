@@ -2,6 +2,7 @@
 use Rattle.std.proofs.Common.{◌≡◌, ◌≢◌, ℕ, zero, suc, ◌+◌, ◌<◌, cond, refl, sym, ◌∙◌, ap, List, [], ◌∷◌, map, length, arith}
 use Rattle.std.specs.Prelude.{ℤ, pos, negsuc, ◌+ℤ◌, ◌-ℤ◌, ◌*ℤ◌, ◌==◌, neg_ℤ, slice_index, slice_index_or}
 use Rattle.std.proofs.lemmas.List.{get_or-map}
+use Rattle.std.proofs.lemmas.Bool.{eq-eqb, ne_eqb}
 use Rattle.cost_base.specs.Lists.{numbers_from}
 use Rattle.cost_base.proofs.ListLemmas.{map-numbers_from-agree, all_from_each}
 use Rattle.whole_numbers.proofs.Ring.{var, num, ◌⊕◌, ◌⊖◌, ◌⊗◌, neg, ring}
@@ -11,7 +12,6 @@ use Rattle.design_problem.specs.declared.tree.Member.TheVariants.{Low, High}
 use Rattle.design_problem.specs.Forms.{dot, value_for_costs}
 use Rattle.design_problem.specs.Basis.{member_form, unit}
 use Rattle.fraction_table.specs.ValidTables.{AllLong, from_lows, number_of_form, numbers_of_form}
-use Rattle.fraction_rows.proofs.Columns.{same_test, other_test}
 use Rattle.fraction_table.proofs.theory.Blends.{listed_at}
 
 -- the coefficients from a on
@@ -22,7 +22,7 @@ no_units : (v a m place : ℕ) (c : ℤ) (lows : List (List ℤ)) → v < a → 
 no_units v a zero place c lows before = refl
 no_units v a (suc m) place c [] before = refl
 no_units v a (suc m) place c (ts ∷ lows) before =
-    ap (λ b. (cond b c (pos 0) *ℤ number_at ts place) +ℤ from_lows (units v c (a + 1) m) lows place) (other_test a v (apart before))
+    ap (λ b. (cond b c (pos 0) *ℤ number_at ts place) +ℤ from_lows (units v c (a + 1) m) lows place) (ne_eqb a v (apart before))
     ∙ ap (λ z. (pos 0 *ℤ number_at ts place) +ℤ z) (no_units v (a + 1) m place c lows (omega arith))
     ∙ ring (number_at ts place ∷ []) (num (pos 0) ⊗ var 0 ⊕ num (pos 0)) (num (pos 0)) refl
   where
@@ -34,11 +34,11 @@ units_from_lows : (v a i m place : ℕ) (c : ℤ) (lows : List (List ℤ)) → v
 units_from_lows v a i zero place c lows there i_in counted = absurd (omega arith)
 units_from_lows v a i (suc m) place c [] there i_in counted = absurd (omega arith)
 units_from_lows v a zero (suc m) place c (ts ∷ lows) there i_in counted =
-    ap (λ b. (cond b c (pos 0) *ℤ number_at ts place) +ℤ from_lows (units v c (a + 1) m) lows place) (same_test a v (omega arith))
+    ap (λ b. (cond b c (pos 0) *ℤ number_at ts place) +ℤ from_lows (units v c (a + 1) m) lows place) (eq-eqb a v (omega arith))
     ∙ ap (λ z. (c *ℤ number_at ts place) +ℤ z) (no_units v (a + 1) m place c lows (omega arith))
     ∙ ring (c ∷ number_at ts place ∷ []) (var 0 ⊗ var 1 ⊕ num (pos 0)) (var 0 ⊗ var 1) refl
 units_from_lows v a (suc i) (suc m) place c (ts ∷ lows) there i_in counted =
-    ap (λ b. (cond b c (pos 0) *ℤ number_at ts place) +ℤ from_lows (units v c (a + 1) m) lows place) (other_test a v (apart there))
+    ap (λ b. (cond b c (pos 0) *ℤ number_at ts place) +ℤ from_lows (units v c (a + 1) m) lows place) (ne_eqb a v (apart there))
     ∙ ap (λ z. (pos 0 *ℤ number_at ts place) +ℤ z) (units_from_lows v (a + 1) i m place c lows (omega arith) (omega arith) (omega arith))
     ∙ ring (c ∷ number_at ts place ∷ number_at (slice_index_or lows i []) place ∷ []) (num (pos 0) ⊗ var 1 ⊕ var 0 ⊗ var 2) (var 0 ⊗ var 2) refl
   where
@@ -66,7 +66,8 @@ unit_dot v c xs v_in =
     ∙ ap (λ (ts : List ℤ). c *ℤ number_at ts 0) (get_or-map (λ (x : ℕ). pos x ∷ []) xs v 0 [] v_in)
 
 -- x - low is 0 at the low corner, and high - x is high - low there
-pub low_value : (low : List ℕ) (rows : List Form) (v : ℕ) → v < length low → value_for_costs (member_form (length low) rows (Low v (slice_index low v))) low ≡ pos 0
+pub low_value : (low : List ℕ) (rows : List Form) (v : ℕ) → v < length low →
+    value_for_costs (member_form (length low) rows (Low v (slice_index low v))) low ≡ pos 0
 low_value low rows v v_in =
     ap (λ z. neg_ℤ (pos (slice_index low v)) +ℤ z) (unit_dot v (pos 1) low v_in)
     ∙ ring (pos (slice_index low v) ∷ []) (neg (var 0) ⊕ num (pos 1) ⊗ var 0) (num (pos 0)) refl
@@ -80,7 +81,7 @@ high_value low rows v bound v_in =
 pub long_at : (n : ℕ) (lows : List (List ℤ)) (v : ℕ) → AllLong n lows → v < length lows → length (slice_index_or lows v []) ≡ n
 long_at n lows v long v_in = all_from_each (λ (ts : List ℤ). length ts ≡ n) lows long v [] v_in
 
--- the numbers of x - low are those of its row
+-- the numbers of x - low are those of its line
 pub low_numbers : (D : ℕ) (low : List ℕ) (lows : List (List ℤ)) (rows : List Form) (v : ℕ) → length low ≡ length lows →
     AllLong (suc (length low)) lows → v < length low →
     numbers_of_form (length low) D low lows (member_form (length low) rows (Low v (slice_index low v)))

@@ -18,7 +18,7 @@ status
   0  the least sum was found: an answer with verdict optimal K, then total C
   1  no costs within the bounds will do: what `design` prints then
   2  the budget was used up: what `design` prints then, or the total that was
-     found and below which bound nothing is decided
+     found, and the bound below which nothing is decided
   3  a file, the topology or the request is at fault: refused NUMBER FILE PLACE
   4  a file can't be read   5  the output failed   6  no memory   7  words
 

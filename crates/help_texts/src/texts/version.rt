@@ -5,7 +5,7 @@ pub(crate) const TEXT: &str = "\
 usage: ospfcost version
 
 Prints two lines: the version of the program, and the logic in which it was
-proved, as each check names that at its end.
+proved, which the last line of each check names.
 
 words
   none

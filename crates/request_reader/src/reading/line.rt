@@ -139,8 +139,8 @@ fn bounds(low: &[u8], high: &[u8]) -> Result<Bounds, RequestFault>
     };
     if 1 <= lowest && lowest <= highest && highest <= 65535 {
         Ok(Bounds {
-            lowest: lowest as u16,
-            highest: highest as u16,
+            low: lowest as u16,
+            high: highest as u16,
         })
     } else {
         Err(RequestFault::BadBounds)
@@ -168,7 +168,7 @@ fn free_all(all: &[u8], low: &[u8], high: &[u8]) -> Statement
         return Statement::Refused(RequestFault::BadRequestLine);
     }
     match bounds(low, high) {
-        Ok(bounds) => Statement::Ask(Directive::FreeAll(bounds.lowest, bounds.highest)),
+        Ok(bounds) => Statement::Ask(Directive::FreeAll(bounds.low, bounds.high)),
         Err(fault) => Statement::Refused(fault),
     }
 }
@@ -191,7 +191,7 @@ fn free_one(
         Ok(bounds) => {
             let router = Name::from_bytes(alloc, router)?;
             let interface = Name::from_bytes(alloc, interface)?;
-            Ok(Statement::Ask(Directive::Free(router, interface, bounds.lowest, bounds.highest)))
+            Ok(Statement::Ask(Directive::Free(router, interface, bounds.low, bounds.high)))
         }
         Err(fault) => Ok(Statement::Refused(fault)),
     }

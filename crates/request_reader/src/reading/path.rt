@@ -1,13 +1,13 @@
 //! The lines of a request file that want a path.
-ghost use Rattle.std.specs.Prelude.{◌≡◌, ◌∷◌, ◌++◌, [], None, Some, MatchOption, IfOk, OnOk};
+ghost use Rattle.std.specs.Prelude.{◌≡◌, ◌∷◌, [], None, Some, MatchOption, IfOk};
 ghost use Rattle.text_lines.specs.Lines.{words};
 ghost use Rattle.request_reader.specs.Routes.{route_of, hop_of};
 ghost use Rattle.request_reader.specs.ReadingLines as definition;
 ghost use Rattle.request_reader.specs.ReadingLines.{to_without, behind_without, excluded_parts, parts_by_words};
 
 use crate::reading::statement::Statement;
-use crate::{Directive, Hops, Part, RequestFault};
-use cost_base::{Listed, Name, OutOfMemory};
+use crate::{Directive, Excluded, Hops, RequestFault};
+use cost_base::{Listed, Name, OutOfMemory, push_last};
 use std::alloc::Global;
 use text_lines::{cut, first_word};
 
@@ -55,7 +55,7 @@ fn read_route(alloc: Global, first: &[u8], text: &[u8]) -> Result<Option<Hops>, 
         let Some(hop) = read_hop(alloc, word)? else {
             return Ok(None);
         };
-        add_hop(&mut hops, hop)?;
+        push_last(&mut hops, hop)?;
         word = next;
         left = rest;
     }
@@ -71,14 +71,6 @@ pub(crate) fn is_router(word: &[u8]) -> bool
     ensures { result ≡ definition.is_router_word word.now }
 {
     cut(word, b':').is_none()
-}
-
-/// Adds a hop.
-fn add_hop(hops: &mut Vec<(Name, Name)>, hop: (Name, Name)) -> Result<(), OutOfMemory>
-    ensures { OnOk result (hops.new.items ≡ hops.old.items ++ hop ∷ []) }
-{
-    hops.push(hop)?;
-    Ok(())
 }
 
 /// The router and the interface of a word R:IF, cut at its first `:`, of which neither is empty;
@@ -114,7 +106,7 @@ fn behind_without(text: &[u8]) -> Option<&[u8]>
 
 /// What a path excludes: nothing without the word `without`, and else at least one part behind it.
 /// None exactly where none stands there or one has no such form.
-fn read_excluded_parts(alloc: Global, text: &[u8]) -> Result<Option<Listed<Part>>, OutOfMemory>
+fn read_excluded_parts(alloc: Global, text: &[u8]) -> Result<Option<Listed<Excluded>>, OutOfMemory>
     ensures { IfOk result (λ parts. parts ≡ excluded_parts (behind_without (words text.now))) }
 {
     let Some(rest) = behind_without(text) else {
@@ -127,7 +119,7 @@ fn read_excluded_parts(alloc: Global, text: &[u8]) -> Result<Option<Listed<Part>
 }
 
 /// The parts of words R and R:IF; None exactly where a word is neither.
-fn read_parts(alloc: Global, text: &[u8]) -> Result<Option<Listed<Part>>, OutOfMemory>
+fn read_parts(alloc: Global, text: &[u8]) -> Result<Option<Listed<Excluded>>, OutOfMemory>
     ensures { IfOk result (λ parts. parts ≡ parts_by_words (words text.now)) }
 {
     let mut parts = Vec::new(alloc);
@@ -136,30 +128,22 @@ fn read_parts(alloc: Global, text: &[u8]) -> Result<Option<Listed<Part>>, OutOfM
         let Some(part) = read_part(alloc, word)? else {
             return Ok(None);
         };
-        add_part(&mut parts, part)?;
+        push_last(&mut parts, part)?;
         left = rest;
     }
     Ok(Some(Listed::from_items(parts)))
 }
 
-/// Adds a part.
-fn add_part(parts: &mut Vec<Part>, part: Part) -> Result<(), OutOfMemory>
-    ensures { OnOk result (parts.new.items ≡ parts.old.items ++ part ∷ []) }
-{
-    parts.push(part)?;
-    Ok(())
-}
-
 /// A router of a word R, or an interface of a word R:IF; None exactly where the word is neither.
-fn read_part(alloc: Global, word: &[u8]) -> Result<Option<Part>, OutOfMemory>
+fn read_part(alloc: Global, word: &[u8]) -> Result<Option<Excluded>, OutOfMemory>
     ensures { IfOk result (λ part. part ≡ definition.part_of word.now) }
 {
     if is_router(word) {
         let router = Name::from_bytes(alloc, word)?;
-        return Ok(Some(Part::Router(router)));
+        return Ok(Some(Excluded::Router(router)));
     }
     match read_hop(alloc, word)? {
-        Some((router, interface)) => Ok(Some(Part::Interface(router, interface))),
+        Some((router, interface)) => Ok(Some(Excluded::Interface(router, interface))),
         None => Ok(None),
     }
 }

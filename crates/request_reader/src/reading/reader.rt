@@ -1,5 +1,5 @@
 //! What the statements of a request file say together.
-ghost use Rattle.std.specs.Prelude.{◌≡◌, ◌+◌, ◌-◌, ◌^◌, ◌<◌, ◌++◌, ◌∷◌, [], Some, None, true, false, IfOk, IfErr, OnOk, OnErr, is_some};
+ghost use Rattle.std.specs.Prelude.{◌≡◌, ◌+◌, ◌-◌, ◌^◌, ◌<◌, [], Some, None, true, false, IfOk, IfErr, OnOk, is_some};
 ghost use Rattle.text_lines.specs.LineFaults.{TellsFault, fault_at, fault_in_line};
 ghost use Rattle.request_reader.specs.Asked.{HasGoodBounds, is_path};
 ghost use Rattle.request_reader.specs.Reading.{told_by, fault_said, asked_of};
@@ -9,8 +9,8 @@ ghost use Rattle.request_reader.specs.declared.reading.statement.Statement.TheVa
 
 use crate::reading::line::statement_of;
 use crate::reading::statement::Statement;
-use crate::{Directive, Item, RequestFault, RequestFile};
-use cost_base::{Listed, OutOfMemory, Refusal};
+use crate::{Directive, DirectiveLine, RequestFault, RequestFile};
+use cost_base::{Listed, Refusal, push_last};
 use std::alloc::Global;
 use std::marker::Model;
 use text_lines::StatementReader;
@@ -25,7 +25,7 @@ pub(crate) struct Reader {
     area: Option<u32>,
     default_cost: Option<u16>,
     paths: u32,
-    items: Vec<Item>,
+    items: Vec<DirectiveLine>,
 }
 
 impl Model for Reader {
@@ -111,16 +111,16 @@ impl Reader {
         ensures refused { IfErr result
             (TellsFault (fault_in_line line (fault_said self.old (AskSaid what)))) }
     {
-        let item = Item { line, what };
+        let item = DirectiveLine { line, what };
         if is_path(&item) {
             return self.take_path(item);
         }
-        add_item(&mut self.items, item)?;
+        push_last(&mut self.items, item)?;
         Ok(())
     }
 
     /// Takes a path, unless it is one too many.
-    fn take_path(&mut self, path: Item) -> Result<(), Refusal<RequestFault>>
+    fn take_path(&mut self, path: DirectiveLine) -> Result<(), Refusal<RequestFault>>
         requires bounds { HasGoodBounds path.what }
         requires path { is_path path ≡ true }
         ensures taken { OnOk result (fault_said self.old (AskSaid path.what) ≡ None) }
@@ -135,7 +135,7 @@ impl Reader {
             drop(path);
             return Err(Refusal::at(line, RequestFault::TooManyPaths));
         }
-        add_item(&mut self.items, path)?;
+        push_last(&mut self.items, path)?;
         self.paths += 1;
         Ok(())
     }
@@ -179,17 +179,8 @@ impl StatementReader<RequestFault> for Reader {
 }
 
 /// Whether an item wants a path.
-fn is_path(item: &Item) -> bool
+fn is_path(item: &DirectiveLine) -> bool
     ensures { result ≡ is_path item.now }
 {
     matches!(item.what, Directive::Path(_, _))
-}
-
-/// Adds an item.
-fn add_item(items: &mut Vec<Item>, item: Item) -> Result<(), OutOfMemory>
-    ensures added { OnOk result (items.new.items ≡ items.old.items ++ item ∷ []) }
-    ensures kept { OnErr result (items.new.items ≡ items.old.items) }
-{
-    items.push(item)?;
-    Ok(())
 }

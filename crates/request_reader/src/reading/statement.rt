@@ -4,8 +4,8 @@ use crate::{Directive, RequestFault};
 /// The bounds of a cost.
 #[derive(Clone, Copy)]
 pub(crate) struct Bounds {
-    pub(crate) lowest: u16,
-    pub(crate) highest: u16,
+    pub(crate) low: u16,
+    pub(crate) high: u16,
 }
 
 /// What a statement of a request file says by itself.

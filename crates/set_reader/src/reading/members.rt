@@ -1,6 +1,6 @@
 //! The members of a set.
 ghost use Rattle.std.specs.Prelude.{◌≡◌, ◌↔◌, ◌^◌, ◌<◌, ℕ, List, ◌++◌, ◌∷◌, ◌||◌, [], not, true, false, length, map, All, IsTrue};
-ghost use Rattle.std.specs.Prelude.{IfOk, IfErr, IfSome, OnOk, MatchOption, slice_index_or};
+ghost use Rattle.std.specs.Prelude.{IfOk, IfErr, IfSome, MatchOption, slice_index_or};
 ghost use Rattle.std.specs.List.{list_any};
 ghost use Rattle.cost_base.specs.Lists.{same_bytes};
 ghost use Rattle.area_graph.specs.Distances.{AreEdgeMarks};
@@ -10,7 +10,7 @@ ghost use Rattle.set_reader.specs.Reading.{same_ends, has_other_ends, excludes_e
 ghost use Rattle.set_reader.specs.ReadingSteps.{is_out_of_place};
 
 use crate::SetFault;
-use cost_base::{OutOfMemory, Refusal};
+use cost_base::{OutOfMemory, Refusal, mark_all, push_last};
 use design_problem::Request;
 use indexmap::IndexSet;
 use std::alloc::Global;
@@ -109,17 +109,10 @@ pub(crate) fn read_members(
         if !see(&mut seen, request)? {
             return Err(Refusal::at(line, SetFault::WrongSet));
         }
-        add_member(&mut members, *number as u32)?;
+        push_last(&mut members, *number as u32)?;
     }
     members.sort_unstable();
     Ok(members)
-}
-
-/// Adds a member.
-fn add_member(members: &mut Vec<u32>, member: u32) -> Result<(), OutOfMemory>
-    ensures { OnOk result (members.new.items ≡ members.old.items ++ member ∷ []) }
-{
-    Ok(members.push(member)?)
 }
 
 /// Marks the members of a set, beside what is marked.
@@ -129,7 +122,5 @@ pub(crate) fn mark_members(taken: &mut Vec<bool>, members: &[u32])
         AreEdgeMarks (earlier ++ members.now) taken.new.items }
     ensures count { length taken.new.items ≡ length taken.old.items }
 {
-    for member in members {
-        taken[*member as usize] = true;
-    }
+    mark_all(taken, members);
 }

@@ -10,7 +10,7 @@ use crate::reading::line::statement_of;
 use crate::reading::members::{mark_members, read_members};
 use crate::reading::statement::Statement;
 use crate::{SetFault, Sets};
-use cost_base::{Listed, OutOfMemory, Refusal};
+use cost_base::{Listed, OutOfMemory, Refusal, no_marks};
 use design_problem::Problem;
 use std::alloc::Global;
 use std::marker::Model;
@@ -39,7 +39,7 @@ impl<'a> Reader<'a> {
     pub(crate) fn new(alloc: Global, problem: &'a Problem) -> Result<Reader<'a>, OutOfMemory>
         ensures { IfOk result (λ reader. reader ≡ record { problem = problem.now; sets = [] }) }
     {
-        let taken = vec![in alloc; false; problem.paths.as_slice().len()]?;
+        let taken = no_marks(alloc, problem.requests.as_slice().len())?;
         Ok(Reader {
             problem,
             sets: Vec::new(alloc),
@@ -55,12 +55,12 @@ impl<'a> Reader<'a> {
         said: Statement,
     ) -> Result<(), Refusal<SetFault>>
         requires { HasSeveral said }
-        ensures taken { OnOk result (set_fault_said self.old.problem.paths self.old.sets said ≡
+        ensures taken { OnOk result (set_fault_said self.old.problem.requests self.old.sets said ≡
             None) }
         ensures told { OnOk result (TakesStatement self.old said self.new) }
         ensures refused { IfErr result
             (TellsFault
-            (fault_in_line line (set_fault_said self.old.problem.paths self.old.sets said))) }
+            (fault_in_line line (set_fault_said self.old.problem.requests self.old.sets said))) }
     {
         match said {
             Statement::Numbers(numbers) => self.take_set(alloc, line, numbers.as_slice()),
@@ -76,15 +76,15 @@ impl<'a> Reader<'a> {
         numbers: &[u64],
     ) -> Result<(), Refusal<SetFault>>
         requires several { 2 ≤ length numbers.now }
-        ensures taken { OnOk result (set_fault_said self.old.problem.paths self.old.sets
+        ensures taken { OnOk result (set_fault_said self.old.problem.requests self.old.sets
             (NumbersSaid numbers.now) ≡ None) }
         ensures told { OnOk result (TakesStatement self.old (NumbersSaid numbers.now) self.new) }
         ensures refused { IfErr result
-            (TellsFault (fault_in_line line (set_fault_said self.old.problem.paths self.old.sets
+            (TellsFault (fault_in_line line (set_fault_said self.old.problem.requests self.old.sets
             (NumbersSaid numbers.now)))) }
     {
         let problem = self.problem;
-        let requests = problem.paths.as_slice();
+        let requests = problem.requests.as_slice();
         let members = read_members(alloc, requests, self.taken.as_slice(), line, numbers)?;
         let set = Listed::from_items(members);
         if self.sets.reserve(1).is_err() {
@@ -108,7 +108,7 @@ impl<'a> StatementReader<SetFault> for Reader<'a> {
     ghost use Rattle.set_reader.specs.Reading.{set_rules};
     ghost use Rattle.set_reader.specs.ReadingSteps.{HasTaken};
 
-    ghost fault_of = { λ r. (set_rules r.problem.paths).fault_of };
+    ghost fault_of = { λ r. (set_rules r.problem.requests).fault_of };
 
     ghost took = { HasTaken };
 

@@ -2,9 +2,8 @@ use Rattle.std.proofs.Common.{codes, List, Option, subst, sym}
 use Rattle.design_problem.specs.declared.answer.CapTree.{CapTree}
 use Rattle.design_problem.specs.declared.answer.Costs.{Costs}
 use Rattle.design_problem.specs.declared.form.Row.{Row}
-use Rattle.design_problem.specs.Text.{costs_lines, tree_lines}
+use Rattle.design_problem.specs.Text.{costs_lines, tree_lines, rows_lines}
 use Rattle.evidence_text.specs.Lines.{AreShort}
-use Rattle.evidence_text.specs.Parts.{rows_lines}
 use Rattle.evidence_text.proofs.AnswerOrder.{parts_held, short_parts}
 use Rattle.answer_cases.proofs.texts.put_parts.Goals as goal
 
@@ -26,4 +25,4 @@ put_tree-requires c =
 pub put_tree-requires-2 : goal.put_tree-requires-2
 put_tree-requires-2 c =
     subst (λ (tree : Option CapTree). AreShort (tree_lines (codes "open") tree)) (sym c.as_ref-3.ensures.value)
-    (short_parts (parts_held c.answer.inside) c.answer.invariant.lines).unfinished
+    (short_parts (parts_held c.answer.inside) c.answer.invariant.lines).undecided

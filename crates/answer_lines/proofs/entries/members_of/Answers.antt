@@ -1,9 +1,9 @@
 use Rattle.std.proofs.Common.{◌++◌, All, sym, ap, subst, ◌∙◌}
-use Rattle.design_problem.specs.Bounds.{BoundsMember}
+use Rattle.std.proofs.lemmas.List.Elements.{All-push}
+use Rattle.design_problem.specs.AnswerRanges.{BoundsMember}
 use Rattle.design_problem.specs.Text.{members_words}
 use Rattle.answer_lines.specs.Words.{words_left}
 use Rattle.answer_lines.proofs.ListParts.{not-both}
-use Rattle.answer_lines.proofs.NumberWords.{All-more}
 use Rattle.answer_lines.proofs.EntryWords.{no_member_more, member_more}
 use Rattle.answer_lines.proofs.entries.members_of.Goals as goal
 
@@ -21,6 +21,6 @@ loop-left-preserved c = record {
       ∙ ap (λ l. members_words l ++ words_left c.in-Some.rest) (sym c.in_ok-push.ensures.items);
   bounds =
       subst (λ l. All BoundsMember l) (sym c.in_ok-push.ensures.items)
-      (All-more BoundsMember c.loop-left.members.items c.in-Some.member c.loop-left.invariant.bounds
+      (All-push BoundsMember c.loop-left.members.items c.in-Some.member c.loop-left.invariant.bounds
       c.in-Some.ensures.0);
 }

@@ -1,5 +1,5 @@
 use Rattle.std.proofs.Common.{◌≡◌, ◌++◌, All, length}
-use Rattle.design_problem.specs.Bounds.{BoundsMember}
+use Rattle.design_problem.specs.AnswerRanges.{BoundsMember}
 use Rattle.design_problem.specs.Text.{members_words}
 use Rattle.answer_lines.specs.Words.{words_left}
 use Rattle.answer_lines.proofs.entries.members_of.Given as goal

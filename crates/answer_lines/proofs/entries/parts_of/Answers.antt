@@ -1,10 +1,10 @@
 use Rattle.std.proofs.Common.{◌<◌, ◌^◌, ℕ, ◌++◌, All, length, get_or, ◌≤◌, sym, ap, subst, ◌∙◌, arith}
 use Rattle.std.proofs.lemmas.List.Quantifiers.{all_pairs_push}
-use Rattle.design_problem.specs.Bounds.{BoundsParts, IsRowNumber}
-use Rattle.design_problem.specs.Text.{part_words}
+use Rattle.std.proofs.lemmas.List.Elements.{All-push}
+use Rattle.design_problem.specs.AnswerRanges.{BoundsParts, IsRowNumber}
+use Rattle.design_problem.specs.Text.{multiplier_words}
 use Rattle.answer_lines.specs.Words.{words_left}
 use Rattle.answer_lines.proofs.ListParts.{not-both}
-use Rattle.answer_lines.proofs.NumberWords.{All-more}
 use Rattle.answer_lines.proofs.EntryWords.{no_part_more, not_rising, part_more}
 use Rattle.answer_lines.proofs.entries.parts_of.Goals as goal
 
@@ -32,16 +32,16 @@ loop-left-preserved c =
       words =
           part_more (words_left c.args.words) (words_left c.loop-left.left) (words_left c.in-Some.rest) items part
           c.loop-left.invariant.words c.in-Some.ensures.3
-          ∙ ap (λ l. part_words l ++ words_left c.in-Some.rest) (sym c.in_ok-push.ensures.items);
+          ∙ ap (λ l. multiplier_words l ++ words_left c.in-Some.rest) (sym c.in_ok-push.ensures.items);
       bounds =
           subst (λ l. BoundsParts l) (sym c.in_ok-push.ensures.items)
           (record {
-            rows = All-more (λ p. IsRowNumber p.0) items part c.loop-left.invariant.bounds.rows c.in-Some.ensures.0;
+            rows = All-push (λ p. IsRowNumber p.0) items part c.loop-left.invariant.bounds.rows c.in-Some.ensures.0;
             rising = all_pairs_push (λ a b. a.0 < b.0) items part c.loop-left.invariant.bounds.rising
                 (subst (λ l. (k : ℕ) (d : ℕ × ℕ) → k < length l → (get_or l k d).0 < part.0)
                 c.as_slice.ensures.value rise);
-            positive = All-more (λ p. 0 < p.1) items part c.loop-left.invariant.bounds.positive c.in-Some.ensures.1;
+            positive = All-push (λ p. 0 < p.1) items part c.loop-left.invariant.bounds.positive c.in-Some.ensures.1;
           });
       small = subst (λ l. All (λ p. p.1 < 10 ^ 31) l) (sym c.in_ok-push.ensures.items)
-          (All-more (λ p. p.1 < 10 ^ 31) items part c.loop-left.invariant.small c.in-Some.ensures.2);
+          (All-push (λ p. p.1 < 10 ^ 31) items part c.loop-left.invariant.small c.in-Some.ensures.2);
     }

@@ -4,8 +4,8 @@ use Rattle.std.proofs.lemmas.Bool.Decides.{Decides-eqb}
 use Rattle.cost_base.specs.Decimal.{decimal}
 use Rattle.design_problem.specs.declared.answer.Verdict.{Verdict}
 use Rattle.design_problem.specs.declared.answer.Verdict.TheVariants.{Optimal, Impossible, Undecided}
-use Rattle.design_problem.specs.Bounds.{BoundsVerdict}
-use Rattle.evidence_text.specs.Parts.{verdict_line}
+use Rattle.design_problem.specs.AnswerRanges.{BoundsVerdict}
+use Rattle.design_problem.specs.Text.{verdict_line}
 use Rattle.answer_lines.proofs.heads.verdict_of.Goals as goal
 
 none_said : (line : List ℕ) → line ≢ codes "verdict impossible" → ((n : ℕ) → n ≤ 65535 → line ≢ codes "verdict optimal " ++ decimal n) →

@@ -1,6 +1,6 @@
 use Rattle.std.proofs.Common.{◌≡◌, ◌++◌, All, map, length}
 use Rattle.cost_base.specs.Decimal.{decimal}
-use Rattle.design_problem.specs.Bounds.{IsIndex}
+use Rattle.design_problem.specs.AnswerRanges.{IsIndex}
 use Rattle.answer_lines.specs.Words.{words_left}
 use Rattle.answer_lines.proofs.rows.numbers_of.Given as goal
 

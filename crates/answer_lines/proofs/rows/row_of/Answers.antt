@@ -1,5 +1,5 @@
 use Rattle.std.proofs.Common.{◌≡◌, ◌∷◌, ◌∙◌, map, codes, sym, ap, subst, arith, ◌<◌, ◌^◌, All}
-use Rattle.design_problem.specs.Bounds.{IsIndex}
+use Rattle.design_problem.specs.AnswerRanges.{IsIndex}
 use Rattle.cost_base.specs.Decimal.{decimal}
 use Rattle.answer_lines.specs.Words.{words_left}
 use Rattle.answer_lines.proofs.ListParts.{rest-is, more-is}

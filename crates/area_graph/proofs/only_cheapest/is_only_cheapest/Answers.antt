@@ -11,7 +11,8 @@ returns c =
     let path = c.args.wanted.now.path.now.edges in
     let d = c.in_ok-distances.distances.items in
     let ends : Ends = record { start = c.args.wanted.now.path.now.start; end = c.args.wanted.now.end; excluded = c.args.wanted.now.excluded.now } in
-    let leads = subst (λ (ds : List ℕ). IsTrue c.leads.result ↔ OtherEdgesLeadToMore graph point c.args.wanted.now.excluded.now ds path) c.as_slice-2.ensures.value c.leads.ensures.leads in
+    let leads = subst (λ (ds : List ℕ). IsTrue c.leads.result ↔ OtherEdgesLeadToMore graph point c.args.wanted.now.excluded.now ds path)
+    c.as_slice-2.ensures.value c.leads.ensures.leads in
     let only = leads_only graph point ends d path c.keeps_conditions.ensures.fits c.requires.fits
     c.in_ok-distances.ensures.numbers.count c.in_ok-distances.ensures.distances.reached c.in_ok-distances.ensures.distances.settled
     c.leads.ensures.below c.requires.path in

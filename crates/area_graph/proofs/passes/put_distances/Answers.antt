@@ -21,7 +21,8 @@ loop-target-init c =
             (All-set (λ x. x ≤ far c.args.subgraph.now.point.now) (replicate n limit) t 0 (omega arith)
             (All-replicate (λ x. x ≤ far c.args.subgraph.now.point.now) n limit c.requires.limit));
       };
-      reached = subst (λ (d : List ℕ). AreReached c.args.subgraph.now.graph.now c.args.subgraph.now.point.now c.args.subgraph.now.exclusion.now t limit (set d t 0)) (sym filled)
+      reached = subst (λ (d : List ℕ). AreReached c.args.subgraph.now.graph.now c.args.subgraph.now.point.now c.args.subgraph.now.exclusion.now t limit
+          (set d t 0)) (sym filled)
           (reached_none c.args.subgraph.now.graph.now c.args.subgraph.now.point.now c.args.subgraph.now.exclusion.now t limit n within);
     }
 

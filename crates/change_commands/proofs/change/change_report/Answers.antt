@@ -1,5 +1,5 @@
 -- What is found of the network that was read is told.
-use Rattle.command_words.specs.Jobs.{limits_seen}
+use Rattle.wide_fraction.specs.SearchLimits.{limits_seen}
 use Rattle.input_files.specs.Stops.{files_named}
 use Rattle.change_commands.proofs.ChangeRuns.{change_ended}
 use Rattle.change_commands.proofs.PresentCosts.{network_built}

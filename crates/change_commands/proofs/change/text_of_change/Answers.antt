@@ -3,13 +3,13 @@ use Rattle.std.proofs.Common.{◌≡◌, ap, sym, subst, List, ℕ, [], length, 
 use Rattle.std.specs.Prelude.{IfSome}
 use Rattle.design_problem.specs.declared.form.Row.{Row}
 use Rattle.evidence_text.specs.Lines.{AreShort}
-use Rattle.evidence_text.specs.Parts.{rows_lines}
+use Rattle.design_problem.specs.Text.{rows_lines}
 use Rattle.least_change.specs.declared.change.Change.{Change}
 use Rattle.least_change.specs.declared.change.KeptTree.{KeptTree}
 use Rattle.least_change.specs.Changes.{ChangeQuestion, IsChangeFound}
 use Rattle.change_commands.specs.Changes.{changed_if}
 use Rattle.change_commands.specs.ShortParts.{AreCostsShort, IsOpenShort}
-use Rattle.change_commands.proofs.ShortLines.{IsAskable, askable, changed_if_short, changed_short, evidence_short, impossible_short, rows_part_short, stuck_short}
+use Rattle.change_commands.proofs.ShortLines.{IsAskable, askable, changed_if_short, changed_short, evidence_short, impossible_short, rows_part_short, undecided_short}
 use Rattle.change_commands.proofs.change.text_of_change.Goals.{After-keeps_greatest_bound}
 use Rattle.change_commands.proofs.change.text_of_change.Goals as goal
 
@@ -19,8 +19,8 @@ question c = record { problem = c.args.network.now.problem; present = c.args.pre
 asks : (c : After-keeps_greatest_bound) → IsAskable (question c)
 asks c =
     let network = c.args.network.now in
-    askable network.requests network.lsdb network.problem c.args.present.now c.requires.found.0 c.requires.found.1 c.requires.built c.requires.present
-    c.keeps_conditions.ensures.problem c.keeps_conditions.ensures.graph c.keeps_greatest_bound.ensures c.requires.found.2
+    askable network.request_file network.lsdb network.problem c.args.present.now c.requires.found.0 c.requires.found.1 c.requires.built c.requires.present
+    c.keeps_problem_on_graph.ensures.problem c.keeps_problem_on_graph.ensures.graph c.keeps_greatest_bound.ensures c.requires.found.2
 
 told : (c : After-keeps_greatest_bound) (change : Change) → c.args.change.now ≡ change → IsChangeFound (question c) change
 told c change is = subst (λ (found : Change). IsChangeFound (question c) found) is c.requires.found.3
@@ -41,7 +41,8 @@ fewest_text-requires-clause-costs c =
     let at = (goal.at.fewest_text-requires-clause-costs c).After-keeps_greatest_bound in
     let network = c.args.network.now in
     let shown = told at _ c.in-Fewest.is in
-    changed_short network.requests network.lsdb network.problem c.in-Fewest.costs c.requires.built (asks at).problem (asks at).bound_small shown.fewest.fit.within
+    changed_short network.request_file network.lsdb network.problem c.in-Fewest.costs c.requires.built (asks at).problem (asks at).bound_small
+    shown.fewest.fit.within
 
 pub fewest_text-requires-clause-cores : goal.fewest_text-requires-clause-cores
 fewest_text-requires-clause-cores c =
@@ -66,8 +67,8 @@ undecided_text-requires-clause-costs c =
     let at = (goal.at.undecided_text-requires-clause-costs c).After-keeps_greatest_bound in
     let network = c.args.network.now in
     let shown = told at _ c.in-Undecided.is in
-    subst (λ (costs : Option (List ℕ)). AreCostsShort (changed_if network.requests network.lsdb costs)) (sym c.as_ref.ensures.value)
-    (changed_if_short network.requests network.lsdb network.problem c.in-Undecided.costs c.requires.built (asks at).problem (asks at).bound_small shown.fit)
+    subst (λ (costs : Option (List ℕ)). AreCostsShort (changed_if network.request_file network.lsdb costs)) (sym c.as_ref.ensures.value)
+    (changed_if_short network.request_file network.lsdb network.problem c.in-Undecided.costs c.requires.built (asks at).problem (asks at).bound_small shown.fit)
 
 pub undecided_text-requires-clause-cores : goal.undecided_text-requires-clause-cores
 undecided_text-requires-clause-cores c =
@@ -75,9 +76,9 @@ undecided_text-requires-clause-cores c =
     let shown = told at _ c.in-Undecided.is in
     evidence_short (question at) c.in-Undecided.evidence _ (asks at) shown.evidence_holds
 
-pub undecided_text-requires-clause-stuck : goal.undecided_text-requires-clause-stuck
-undecided_text-requires-clause-stuck c =
-    let at = (goal.at.undecided_text-requires-clause-stuck c).After-keeps_greatest_bound in
+pub undecided_text-requires-clause-undecided : goal.undecided_text-requires-clause-undecided
+undecided_text-requires-clause-undecided c =
+    let at = (goal.at.undecided_text-requires-clause-undecided c).After-keeps_greatest_bound in
     let network = c.args.network.now in
-    subst (λ (stuck : Option KeptTree). IfSome stuck (λ some. IsOpenShort network.problem some.tree)) (sym c.as_ref-in-Undecided.ensures.value)
-    (stuck_short (question at) c.in-Undecided.evidence c.in-Undecided.costs c.in-Undecided.open (asks at) (told at _ c.in-Undecided.is))
+    subst (λ (undecided : Option KeptTree). IfSome undecided (λ some. IsOpenShort network.problem some.tree)) (sym c.as_ref-in-Undecided.ensures.value)
+    (undecided_short (question at) c.in-Undecided.evidence c.in-Undecided.costs c.in-Undecided.undecided (asks at) (told at _ c.in-Undecided.is))

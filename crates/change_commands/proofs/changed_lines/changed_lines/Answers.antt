@@ -12,7 +12,7 @@ use Rattle.change_commands.proofs.changed_lines.changed_lines.Goals as goal
 
 pub loop-i-preserved : goal.loop-i-preserved
 loop-i-preserved c =
-    let a = c.args.network.now.requests in
+    let a = c.args.network.now.request_file in
     let d = c.args.network.now.lsdb in
     let w = c.args.costs.now in
     let i = c.loop-i.i in

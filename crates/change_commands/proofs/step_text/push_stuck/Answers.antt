@@ -11,9 +11,11 @@ loop-blocked-init c =
     let of = c.args.of in
     let steps : List ℕ → List (List ℕ) = λ done. steps_lines of.by of.names.now of.moves.now done in
     let lines : List Blocked → List (List ℕ) = λ blocked. map (stuck_line of.by of.names.now of.moves.now) blocked in
-    lines_behind c.args.text.now.items c.push_steps.new.text.items (steps c.as_slice.result.now) (lines c.as_slice-blocked-items.result.now) c.in_ok-push_steps.ensures
+    lines_behind c.args.text.now.items c.push_steps.new.text.items (steps c.as_slice.result.now) (lines c.as_slice-blocked-items.result.now)
+    c.in_ok-push_steps.ensures
     ∙ ap (λ (done : List ℕ). c.args.text.now.items ++ with_ends (steps done ++ lines c.as_slice-blocked-items.result.now)) c.as_slice.ensures.value
-    ∙ ap (λ (blocked : List Blocked). c.args.text.now.items ++ with_ends (steps c.args.stuck.now.done.items ++ lines blocked)) c.as_slice-blocked-items.ensures.value
+    ∙ ap (λ (blocked : List Blocked). c.args.text.now.items ++ with_ends (steps c.args.stuck.now.done.items ++ lines blocked))
+    c.as_slice-blocked-items.ensures.value
 
 pub loop-blocked-preserved : goal.loop-blocked-preserved
 loop-blocked-preserved c =

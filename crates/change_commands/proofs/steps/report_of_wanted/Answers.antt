@@ -11,7 +11,7 @@ use Rattle.change_commands.proofs.steps.report_of_wanted.Goals as goal
 
 pub moves_to-requires-clause-present : goal.moves_to-requires-clause-present
 moves_to-requires-clause-present c =
-    ap length c.requires.present ∙ length-map c.args.network.now.lsdb.links (present_cost c.args.network.now.requests)
+    ap length c.requires.present ∙ length-map c.args.network.now.lsdb.links (present_cost c.args.network.now.request_file)
     ∙ sym (ap (λ (d : Database). length d.links) c.requires.names)
 
 pub moves_to-requires-clause-above : goal.moves_to-requires-clause-above
@@ -21,14 +21,14 @@ pub report_of_moves-report-requires-clause-priced : goal.report_of_moves-report-
 report_of_moves-report-requires-clause-priced c =
     priced_links c.args.network.now.lsdb (length c.in_ok-moves.moves.present)
     (ap (λ (m : CostMoves). length m.present) c.in_ok-moves.ensures ∙ ap length c.requires.present
-    ∙ length-map c.args.network.now.lsdb.links (present_cost c.args.network.now.requests))
+    ∙ length-map c.args.network.now.lsdb.links (present_cost c.args.network.now.request_file))
 
-pub report_of_moves-report-requires-clause-paths : goal.report_of_moves-report-requires-clause-paths
-report_of_moves-report-requires-clause-paths c = paths_by_links c.args.network.now c.requires.network c.keeps_conditions.ensures
+pub report_of_moves-report-requires-clause-requests : goal.report_of_moves-report-requires-clause-requests
+report_of_moves-report-requires-clause-requests c = paths_by_links c.args.network.now c.requires.network c.keeps_conditions.ensures
 
 pub returns : goal.returns
 returns c =
     let network = c.args.network.now in
     subst (λ (m : CostMoves). IfOk c.report_of_moves-report.result (ReportsSteps c.args.words.nodes c.args.words.by c.args.names.now
-    (record { graph = graph_by_links network.lsdb; paths = network.problem.paths; moves = m })))
+    (record { graph = graph_by_links network.lsdb; requests = network.problem.requests; moves = m })))
     c.in_ok-moves.ensures c.report_of_moves-report.ensures

@@ -14,17 +14,17 @@ find_steps-steps-requires-clause-priced c =
     subst (λ (graph : Area). All (λ (edge : Edge). IsPriced (length c.args.moves.now.present) edge.price) graph.edges) (sym c.in_ok-graph.ensures)
     c.requires.priced
 
-pub find_steps-steps-requires-clause-paths : goal.find_steps-steps-requires-clause-paths
-find_steps-steps-requires-clause-paths c =
-    subst (λ (graph : Area). ArePathsOf graph c.paths_of.result.now) (sym c.in_ok-graph.ensures)
-    (subst (λ (paths : List Request). ArePathsOf (graph_by_links c.args.network.now.lsdb) paths) (sym c.paths_of.ensures) c.requires.paths)
+pub find_steps-steps-requires-clause-requests : goal.find_steps-steps-requires-clause-requests
+find_steps-steps-requires-clause-requests c =
+    subst (λ (graph : Area). ArePathsOf graph c.requests_of.result.now) (sym c.in_ok-graph.ensures)
+    (subst (λ (requests : List Request). ArePathsOf (graph_by_links c.args.network.now.lsdb) requests) (sym c.requests_of.ensures) c.requires.requests)
 
 pub find_steps-steps-requires-clause-few : goal.find_steps-steps-requires-clause-few
-find_steps-steps-requires-clause-few c = subst (λ (paths : List Request). length paths ≤ 10000) (sym c.paths_of.ensures) c.requires.few
+find_steps-steps-requires-clause-few c = subst (λ (requests : List Request). length requests ≤ 10000) (sym c.requests_of.ensures) c.requires.few
 
 pub returns : goal.returns
 returns c =
     subst (λ (graph : Area). IfOk c.find_steps-steps.result (AreStepsFound
-    (record { graph = graph; paths = c.args.network.now.problem.paths; moves = c.args.moves.now }) c.args.nodes)) c.in_ok-graph.ensures
-    (subst (λ (paths : List Request). IfOk c.find_steps-steps.result (AreStepsFound
-    (record { graph = c.in_ok-graph.graph; paths = paths; moves = c.args.moves.now }) c.args.nodes)) c.paths_of.ensures c.find_steps-steps.ensures)
+    (record { graph = graph; requests = c.args.network.now.problem.requests; moves = c.args.moves.now }) c.args.nodes)) c.in_ok-graph.ensures
+    (subst (λ (requests : List Request). IfOk c.find_steps-steps.result (AreStepsFound
+    (record { graph = c.in_ok-graph.graph; requests = requests; moves = c.args.moves.now }) c.args.nodes)) c.requests_of.ensures c.find_steps-steps.ensures)

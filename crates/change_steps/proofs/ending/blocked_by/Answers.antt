@@ -11,6 +11,6 @@ returns-clause-done c =
 pub returns-clause-blocked : goal.returns-clause-blocked
 returns-clause-blocked c = record {
   step_is = refl;
-  barrier = subst (λ (m : List Bool). IsBarrier c.args.plan.now.rollout c.args.plan.now.held c.args.tested.now m c.barrier_of-by.result)
+  barrier = subst (λ (m : List Bool). IsBarrier c.args.held_rollout.now.rollout c.args.held_rollout.now.held c.args.tested.now m c.barrier_of-by.result)
       c.do_step.ensures.done c.barrier_of-by.ensures.barrier;
 }

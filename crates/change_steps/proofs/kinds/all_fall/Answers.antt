@@ -4,29 +4,33 @@ use Rattle.std.specs.List.{list_all}
 use Rattle.change_steps.specs.Kinds.{falls_off_held, rises}
 use Rattle.change_steps.proofs.MarkedLaws.{fallen_more, not_fallen, not_off}
 use Rattle.change_steps.proofs.kinds.all_fall.Goals as goal
-use Rattle.change_steps.proofs.kinds.all_fall.Goals.{then-line_rises-via-then-line_rises, then-line_rises-via-else-line_rises+then-marks-line}
+use Rattle.change_steps.proofs.kinds.all_fall.Goals.{then-variable_rises-via-then-variable_rises, then-variable_rises-via-else-variable_rises+then-marks-variable}
 
-pub loop-line-init : goal.loop-line-init
-loop-line-init c = λ held are. refl
+pub loop-variable-init : goal.loop-variable-init
+loop-variable-init c = λ held are. refl
 
-pub line_rises-requires : goal.line_rises-requires
-line_rises-requires c = c.requires.known c.loop-line.line-index 0 c.loop-line-test.true
+pub variable_rises-requires : goal.variable_rises-requires
+variable_rises-requires c = c.requires.known c.loop-variable.variable-index 0 c.loop-variable-test.true
 
-pub returns-then-line_rises : goal.returns-then-line_rises
-returns-then-line_rises c = λ held are. elim c.then-line_rises.branch [
-  | then-line_rises-via-then-line_rises w ↦
-      not_fallen c.args.rollout.now held c.args.lines.now c.loop-line.line-index c.loop-line-test.true (sym c.line_rises.ensures ∙ w.if-line_rises.true)
-  | then-line_rises-via-else-line_rises+then-marks-line w ↦
-      not_off c.args.rollout.now held c.args.marks.now c.args.lines.now c.loop-line.line-index (λ v. not (rises c.args.rollout.now.moves v)) c.loop-line-test.true
-      (c.requires.known c.loop-line.line-index 0 c.loop-line-test.true) are w.if-marks-line.true
+pub returns-then-variable_rises : goal.returns-then-variable_rises
+returns-then-variable_rises c = λ held are. elim c.then-variable_rises.branch [
+  | then-variable_rises-via-then-variable_rises w ↦
+      not_fallen c.args.rollout.now held c.args.variables.now c.loop-variable.variable-index c.loop-variable-test.true
+      (sym c.variable_rises.ensures ∙ w.if-variable_rises.true)
+  | then-variable_rises-via-else-variable_rises+then-marks-variable w ↦
+      not_off c.args.rollout.now held c.args.marks.now c.args.variables.now c.loop-variable.variable-index (λ v. not (rises c.args.rollout.now.moves v))
+      c.loop-variable-test.true
+      (c.requires.known c.loop-variable.variable-index 0 c.loop-variable-test.true) are w.if-marks-variable.true
 ]
 
-pub loop-line-preserved : goal.loop-line-preserved
-loop-line-preserved c = λ held are.
-    fallen_more c.args.rollout.now held c.args.marks.now c.args.lines.now c.loop-line.line-index c.loop-line-test.true
-    (c.requires.known c.loop-line.line-index 0 c.loop-line-test.true) are (sym c.line_rises.ensures ∙ c.if-line_rises.false) c.if-marks-line.false
-    (c.loop-line.invariant held are)
+pub loop-variable-preserved : goal.loop-variable-preserved
+loop-variable-preserved c = λ held are.
+    fallen_more c.args.rollout.now held c.args.marks.now c.args.variables.now c.loop-variable.variable-index c.loop-variable-test.true
+    (c.requires.known c.loop-variable.variable-index 0 c.loop-variable-test.true) are (sym c.variable_rises.ensures ∙ c.if-variable_rises.false)
+    c.if-marks-variable.false
+    (c.loop-variable.invariant held are)
 
 pub returns : goal.returns
 returns c = λ held are.
-    sym (c.loop-line.invariant held are) ∙ ap (list_all (falls_off_held c.args.rollout.now held)) (take_all c.loop-line.line-index c.args.lines.now c.loop-line-test.false)
+    sym (c.loop-variable.invariant held are) ∙ ap (list_all (falls_off_held c.args.rollout.now held))
+    (take_all c.loop-variable.variable-index c.args.variables.now c.loop-variable-test.false)

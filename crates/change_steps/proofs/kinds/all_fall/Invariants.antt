@@ -4,5 +4,6 @@ use Rattle.change_steps.specs.Kinds.{falls_off_held}
 use Rattle.change_steps.specs.Search.{AreHeldMarks}
 use Rattle.change_steps.proofs.kinds.all_fall.Given as goal
 
-abbrev pub invariant-loop-line : goal.invariant-loop-line
-invariant-loop-line l = (held : List ℕ) → AreHeldMarks l.rollout held l.marks → list_all (falls_off_held l.rollout held) (take l.line-index l.lines) ≡ true
+abbrev pub invariant-loop-variable : goal.invariant-loop-variable
+invariant-loop-variable l = (held : List ℕ) → AreHeldMarks l.rollout held l.marks →
+    list_all (falls_off_held l.rollout held) (take l.variable-index l.variables) ≡ true

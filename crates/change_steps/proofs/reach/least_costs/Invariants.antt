@@ -3,5 +3,5 @@ use Rattle.cost_base.specs.Lists.{numbers_from}
 use Rattle.change_steps.specs.Reaches.{least_cost}
 use Rattle.change_steps.proofs.reach.least_costs.Given as goal
 
-abbrev pub invariant-loop-line : goal.invariant-loop-line
-invariant-loop-line l = l.values.items ≡ map (least_cost l.rollout.moves) (numbers_from 0 l.line)
+abbrev pub invariant-loop-variable : goal.invariant-loop-variable
+invariant-loop-variable l = l.values.items ≡ map (least_cost l.rollout.moves) (numbers_from 0 l.variable)

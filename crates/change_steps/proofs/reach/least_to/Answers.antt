@@ -25,7 +25,8 @@ returns-in_err-push-clause-room c = c.distances_to.ensures.room
 pub loop-vertex-preserved : goal.loop-vertex-preserved
 loop-vertex-preserved c =
     let n = c.loop-vertex.vertex in
-    let within : n < length c.args.graph.now.vertices = let below = c.loop-vertex-test.true in let count = ap length c.vertices.ensures in omega (arith, below, count) in
+    let within : n < length c.args.graph.now.vertices = let below = c.loop-vertex-test.true in let count = ap length c.vertices.ensures in
+    omega (arith, below, count) in
     record {
       count = let longer = ap length c.in_ok-push.ensures.items ∙ length_push c.loop-vertex.least.items c.at_most.result in
           let count = c.loop-vertex.invariant.count in omega (arith, longer, count);

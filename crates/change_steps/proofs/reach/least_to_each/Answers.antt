@@ -26,7 +26,8 @@ loop-target-preserved c =
             count = let longer = ap (λ (xs : List (List ℕ)). length xs) is ∙ length_push c.loop-target.least.items w.from_items.result in
                 let count = c.loop-target.invariant.count in omega (arith, longer, count);
             least = subst (λ (xs : List (List ℕ)). AreLeastToEach r.graph (at_costs (least_costs r.moves)) xs) (sym is)
-                (at_least_more r.graph (at_costs (least_costs r.moves)) n c.loop-target.least.items w.from_items.result c.loop-target.invariant.count c.loop-target.invariant.least
+                (at_least_more r.graph (at_costs (least_costs r.moves)) n c.loop-target.least.items w.from_items.result c.loop-target.invariant.count
+                c.loop-target.invariant.least
                 (subst (λ (row : List ℕ). AreLeastTo r.graph (at_costs (least_costs r.moves)) n row) (sym w.from_items.ensures)
                 (subst (λ (g : Area). AreLeastTo g (at_costs (least_costs r.moves)) n w.in_ok-row.row.items) c.graph-graph.ensures
                 (subst (λ (p : Point). AreLeastTo c.graph-graph.result.now p n w.in_ok-row.row.items) c.in_ok-point.ensures w.in_ok-row.ensures.least))));
@@ -38,7 +39,8 @@ loop-target-preserved c =
             count = let longer = ap (λ (xs : List (List ℕ)). length xs) is ∙ length_push c.loop-target.least.items w.new.result in
                 let count = c.loop-target.invariant.count in omega (arith, longer, count);
             least = subst (λ (xs : List (List ℕ)). AreLeastToEach r.graph (at_costs (least_costs r.moves)) xs) (sym is)
-                (at_least_more r.graph (at_costs (least_costs r.moves)) n c.loop-target.least.items w.new.result c.loop-target.invariant.count c.loop-target.invariant.least
+                (at_least_more r.graph (at_costs (least_costs r.moves)) n c.loop-target.least.items w.new.result c.loop-target.invariant.count
+                c.loop-target.invariant.least
                 (subst (λ (row : List ℕ). AreLeastTo r.graph (at_costs (least_costs r.moves)) n row) (sym w.new.ensures)
                 (least_none r.graph (at_costs (least_costs r.moves)) n)));
           }

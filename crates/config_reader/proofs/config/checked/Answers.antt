@@ -13,8 +13,8 @@ returns-in-Some-clause-refused c = λ bytes parts.
     let read = read_is c.args.file_name.now bytes c.args.parts.now c.args.networks.now c.args.drafts
     (head_heard c.router_name-name.result) c.as_bytes.result.now parts c.requires.networks c.requires.drafts
     c.router_name-name.ensures c.as_bytes.ensures.value in
-    sym (fault_is c.args.file_name.now bytes c.args.parts.now c.args.networks.now c.args.drafts
-    (head_heard c.router_name-name.result) read) ∙ sym c.in-Some.ensures
+    rw c.at.ensures (sym (fault_is c.args.file_name.now bytes c.args.parts.now c.args.networks.now c.args.drafts
+    (head_heard c.router_name-name.result) read) ∙ sym c.in-Some.ensures)
 
 pub made-requires : goal.made-requires
 made-requires c =

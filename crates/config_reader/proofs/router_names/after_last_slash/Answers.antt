@@ -3,7 +3,7 @@ use Rattle.std.specs.Prelude.{unwrap_or}
 use Rattle.cost_base.specs.Lists.{last_of}
 use Rattle.text_lines.specs.Numbers.{split}
 use Rattle.text_lines.proofs.Pieces.{split-some}
-use Rattle.config_reader.specs.Faults as definition
+use Rattle.config_reader.specs.RouterNames as definition
 use Rattle.config_reader.proofs.router_names.after_last_slash.Goals as goal
 
 last_of-behind : (x : List ℕ) (xs : List (List ℕ)) → xs ≢ [] → last_of (x ∷ xs) ≡ last_of xs

@@ -1,5 +1,5 @@
 use Rattle.std.proofs.Common.{◌≡◌, length}
-use Rattle.config_reader.specs.Faults as definition
+use Rattle.config_reader.specs.RouterNames as definition
 use Rattle.config_reader.proofs.router_names.after_last_slash.Given as goal
 
 -- the last part is the last part of what is left

@@ -3,7 +3,7 @@ use Rattle.std.specs.Prelude.{All, IfOk}
 use Rattle.std.proofs.lemmas.Result.{IfOk-weaker, err_from_is_err_and}
 use Rattle.design_problem.specs.Earnest.{IsLeastPoint}
 use Rattle.design_problem.specs.Rows.{LeadsEach}
-use Rattle.form_search.specs.Advised.{IsTreeOf}
+use Rattle.form_search.specs.AdvisorsAsked.{IsTreeOf}
 use Rattle.form_search.proofs.AdvisorLaws.{calls_begun, calls_there, start}
 use Rattle.cost_branching.specs.Pools.{IsRowPool, Pooled}
 use Rattle.cost_branching.specs.Rivals.{IsTrueRowForm, KnownRows}
@@ -23,7 +23,7 @@ search-found-requires-clause-in_step g c =
       lists = search rules;
       true_forms =
           subst (λ (s : KnownRows). All (IsTrueRowForm s.problem) pool.forms) (sym c.new-source.ensures)
-          (pool_true c.args.problem.now pool c.keeps_conditions.ensures is_pool);
+          (pool_true c.args.problem.now pool c.keeps_problem_on_graph.ensures is_pool);
     }
 
 pub returns-clause-pool : goal.returns-clause-pool

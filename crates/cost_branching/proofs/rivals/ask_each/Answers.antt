@@ -26,7 +26,7 @@ loop-request-preserved c =
     let now_forms = c.loop-request.pool in
     let new = known c.ask_one.new.rows.items in
     let new_forms = c.ask_one.new.pool in
-    let are = subst (λ (rivals : List (Option (List ℕ))). AreCheapestRivals c.args.problem.now.graph point c.args.problem.now.paths rivals)
+    let are = subst (λ (rivals : List (Option (List ℕ))). AreCheapestRivals c.args.problem.now.graph point c.args.problem.now.requests rivals)
     (sym c.as_slice-told.ensures.value) c.in_ok-rivals.ensures.rivals in
     let one = c.in_ok-ask_one.ensures.one point are in
     let IsOne : Bool → Type 0 = λ b. IsRequestAsked point request now now_forms new new_forms b in
@@ -49,6 +49,6 @@ loop-request-preserved c =
 pub returns-clause-asked : goal.returns-clause-asked
 returns-clause-asked c =
     let known : List Row → KnownRows = λ rows. record { problem = c.args.problem.now; rows = rows } in
-    let all : length c.args.problem.now.paths ≤ c.loop-request.request = omega (arith, c.path_count-count.ensures, c.loop-request-test.false) in
+    let all : length c.args.problem.now.requests ≤ c.loop-request.request = omega (arith, c.request_count-count.ensures, c.loop-request-test.false) in
     all_asked_among c.args.point.now c.loop-request.request (known c.args.rows.now.items) c.args.pool.now
     (known c.loop-request.rows.items) c.loop-request.pool c.loop-request.asked all c.loop-request.invariant.asked

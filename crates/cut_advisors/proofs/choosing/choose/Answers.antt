@@ -12,15 +12,15 @@ loop-advisors-preserved g c = λ answer left chosen.
     let some : 0 < length c.loop-advisors.advisors.items = grind (arith, common_steps) in
     c.loop-advisors.invariant answer left
     (chosen_later _ _ _ c.loop-advisors.advisors.items _ c.index_mut.result.now c.ask-answer.new.advisor _
-    some c.index_mut.ensures.value c.ask-answer.ensures.answer c.if-answer-choices.false c.remove.ensures.items answer left chosen)
+    some c.index_mut.ensures.value c.ask-answer.ensures.answer c.if-answer-candidates.false c.remove.ensures.items answer left chosen)
 
-pub returns-then-answer-choices-clause-chosen : goal.returns-then-answer-choices-clause-chosen
-returns-then-answer-choices-clause-chosen g c =
+pub returns-then-answer-candidates-clause-chosen : goal.returns-then-answer-candidates-clause-chosen
+returns-then-answer-candidates-clause-chosen g c =
     let ok = c.loop-advisors.advisors.ok in
     let some : 0 < length c.loop-advisors.advisors.items = grind (arith, common_steps) in
     c.loop-advisors.invariant _ _
     (chosen_here _ _ _ c.loop-advisors.advisors.items c.index_mut.result.now c.ask-answer.new.advisor _
-    some c.index_mut.ensures.value c.ask-answer.ensures.answer c.if-answer-choices.true (c.ask-answer.ensures.itself, c.ask-answer.ensures.state))
+    some c.index_mut.ensures.value c.ask-answer.ensures.answer c.if-answer-candidates.true (c.ask-answer.ensures.itself, c.ask-answer.ensures.state))
 
 pub returns-clause-chosen : goal.returns-clause-chosen
 returns-clause-chosen g c =

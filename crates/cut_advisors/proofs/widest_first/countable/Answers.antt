@@ -3,7 +3,7 @@ use Rattle.std.proofs.lemmas.List.{take_all}
 use Rattle.cut_advisors.proofs.widest_first.countable.Goals as goal
 
 pub slice_bounds-result-end : goal.slice_bounds-result-end
-slice_bounds-result-end c = let h = c.if-choices.false in simp length-take (omega arith)
+slice_bounds-result-end c = let h = c.if-candidates.false in simp length-take (omega arith)
 
-pub returns-then-choices : goal.returns-then-choices
-returns-then-choices c = sym (take_all (2 ^ 32) c.args.choices.now c.if-choices.true)
+pub returns-then-candidates : goal.returns-then-candidates
+returns-then-candidates c = sym (take_all (2 ^ 32) c.args.candidates.now c.if-candidates.true)

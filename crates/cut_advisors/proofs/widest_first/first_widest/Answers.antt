@@ -11,7 +11,7 @@ overflow_cast-result c =
     let none : Candidate = record { var = 0; floor = 0; low = 0; high = 0 } in
     let P : List Candidate → Type 0 = λ xs. length xs ≤ 2 ^ 32 in
     let few : length counted ≤ 2 ^ 32 = subst P (sym c.countable-counted.ensures) (simp length-take (omega arith)) in
-    let below : unwrap_or (position (λ choice. width choice == c.greatest_width.result) counted) 0 < 2 ^ 32 =
+    let below : unwrap_or (position (λ candidate. width candidate == c.greatest_width.result) counted) 0 < 2 ^ 32 =
     position_below _ counted (2 ^ 32) none few (lit< tt) in
     let Q : ℕ → Type 0 = λ n. n < 2 ^ 32 in
     let here : c.unwrap_or.result < 2 ^ 32 = subst Q (sym (c.unwrap_or.ensures ∙ ap (λ o. unwrap_or o 0) c.first_of_width.ensures)) below in
@@ -19,7 +19,7 @@ overflow_cast-result c =
 
 pub returns : goal.returns
 returns c =
-    let at : ℕ → List Candidate → ℕ = λ widest xs. unwrap_or (position (λ choice. width choice == widest) xs) 0 in
+    let at : ℕ → List Candidate → ℕ = λ widest xs. unwrap_or (position (λ candidate. width candidate == widest) xs) 0 in
     c.unwrap_or.ensures
     ∙ (ap (λ o. unwrap_or o 0) c.first_of_width.ensures
     ∙ (ap (λ widest. at widest c.countable-counted.result.now) c.greatest_width.ensures

@@ -25,7 +25,7 @@ returns-in_err-database g c = λ names x is.
     let p = err_from_is_err_and c.from_residual.result c.from_residual.ensures.1 in
     rw (p.1, p.2) (gave_stop given (live_read live x.asked.area) (λ lsas. Ready (record { input = x; live = lsas })) _
     (subst (λ area. Gave given (λ came. StopsAs (live_read live area) came c.in_err-database.field-0.0))
-    (c.area_of.ensures ∙ ap (λ (asked : Asked). asked.area) is.requests) c.in_err-database.ensures))
+    (c.area_of.ensures ∙ ap (λ (asked : Asked). asked.area) is.request_file) c.in_err-database.ensures))
 
 pub returns-in_err-report : goal.returns-in_err-report
 returns-in_err-report g c = λ names x is.
@@ -35,7 +35,7 @@ returns-in_err-report g c = λ names x is.
     rw (p.1, p.2) (gave_stop given (live_read live x.asked.area) (λ lsas. Ready (record { input = x; live = lsas })) stops.OutOfMemory
     (gave_wanting given (live_read live x.asked.area) (λ (database : List Lsa) lsas. database ≡ lsas) c.in_ok-database.database
     (subst (λ area. Gave given (λ came. IsReadAndMade (live_read live area) came (λ (database : List Lsa) lsas. database ≡ lsas) c.in_ok-database.database))
-    (c.area_of.ensures ∙ ap (λ (asked : Asked). asked.area) is.requests) c.in_ok-database.ensures)))
+    (c.area_of.ensures ∙ ap (λ (asked : Asked). asked.area) is.request_file) c.in_ok-database.ensures)))
 
 pub returns : goal.returns
 returns g c = λ names x is.
@@ -44,7 +44,7 @@ returns g c = λ names x is.
     gave_made given (live_read live x.asked.area) (λ lsas. Ready (record { input = x; live = lsas }))
     (λ (database : List Lsa) lsas. database ≡ lsas) Fits c.in_ok-database.database (Ok c.in_ok-report.report)
     (subst (λ area. Gave given (λ came. IsReadAndMade (live_read live area) came (λ (database : List Lsa) lsas. database ≡ lsas) c.in_ok-database.database))
-    (c.area_of.ensures ∙ ap (λ (asked : Asked). asked.area) is.requests) c.in_ok-database.ensures)
+    (c.area_of.ensures ∙ ap (λ (asked : Asked). asked.area) is.request_file) c.in_ok-database.ensures)
     (λ lsas same. record {
       said = record { input = x; live = lsas };
       ends = refl;

@@ -26,7 +26,7 @@ lsas_of-requires-clause-ids c =
 pub lsas_of-requires-clause-one_each : goal.lsas_of-requires-clause-one_each
 lsas_of-requires-clause-one_each c =
     ap length (c.deref-2.ensures.value ∙ c.in_ok-costs.ensures)
-    ∙ length-map c.args.network.now.lsdb.links (present_cost c.args.network.now.requests)
+    ∙ length-map c.args.network.now.lsdb.links (present_cost c.args.network.now.request_file)
 
 pub lsas_of-requires-clause-priced : goal.lsas_of-requires-clause-priced
 lsas_of-requires-clause-priced c =
@@ -34,7 +34,7 @@ lsas_of-requires-clause-priced c =
     let read = c.requires in
     subst (λ (cs : List ℕ). All (λ cost. 0 < cost) cs)
     (sym (c.deref-2.ensures.value ∙ c.in_ok-costs.ensures
-    ∙ ap (λ (a : Asked). map (present_cost a) network.lsdb.links) read.is.network_is.requests
+    ∙ ap (λ (a : Asked). map (present_cost a) network.lsdb.links) read.is.network_is.request_file
     ∙ ap (λ (d : Database). map (present_cost read.said.asked) d.links) read.is.network_is.lsdb))
     (costs_above read.names network read.said read.is.network_is)
 

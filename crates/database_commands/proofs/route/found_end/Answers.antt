@@ -8,12 +8,12 @@ pub returns-then-is_same : goal.returns-then-is_same
 returns-then-is_same c =
     let lsas = c.args.database.now in
     found_own lsas (lsa_graph lsas) (vertex_ids lsas) c.args.from c.args.to (vertex_of_router lsas c.args.from)
-    (vertex_of_router lsas c.args.to) c.in_ok-words.words.items c.in_ok-own.own.items refl refl (sym c.is_same.ensures ∙ c.if-is_same.true)
+    (vertex_of_router lsas c.args.to) c.in_ok-words.words c.in_ok-own.own refl refl (sym c.is_same.ensures ∙ c.if-is_same.true)
     c.in_ok-own.ensures c.in_ok-words.ensures
 
 pub returns : goal.returns
 returns c =
     let lsas = c.args.database.now in
     found_between lsas (lsa_graph lsas) (vertex_ids lsas) c.args.from c.args.to (vertex_of_router lsas c.args.from)
-    (vertex_of_router lsas c.args.to) c.in_ok-words.words.items refl refl refl refl (sym c.is_same.ensures ∙ c.if-is_same.false)
+    (vertex_of_router lsas c.args.to) c.in_ok-words.words refl refl refl refl (sym c.is_same.ensures ∙ c.if-is_same.false)
     c.in_ok-words.ensures

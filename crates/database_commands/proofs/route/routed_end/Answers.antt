@@ -38,10 +38,10 @@ returns c =
     let lsas = c.args.database.now in
     let from = vertex_of_router lsas c.args.from in
     let to = vertex_of_router lsas c.args.to in
-    subst (λ (g : Area). IfOk c.route_end.result (λ words. EndsBy g (vertex_ids lsas) from to words.items)) c.in_ok-graph.ensures
-    (subst (λ (ids : List ℕ). IfOk c.route_end.result (λ words. EndsBy c.in_ok-graph.graph ids from to words.items))
+    subst (λ (g : Area). IfOk c.route_end.result (λ words. EndsBy g (vertex_ids lsas) from to words)) c.in_ok-graph.ensures
+    (subst (λ (ids : List ℕ). IfOk c.route_end.result (λ words. EndsBy c.in_ok-graph.graph ids from to words))
     (c.deref.ensures.value ∙ c.in_ok-ids.ensures ∙ ap vertex_ids c.as_slice-lsas.ensures.items)
-    (subst (λ v. IfOk c.route_end.result (λ words. EndsBy c.in_ok-graph.graph c.deref.result.now v to words.items))
+    (subst (λ v. IfOk c.route_end.result (λ words. EndsBy c.in_ok-graph.graph c.deref.result.now v to words))
     (c.vertex_of-start.ensures ∙ ap (λ (ls : List Lsa). vertex_of_router ls c.args.from) c.as_slice-lsas.ensures.items)
-    (subst (λ v. IfOk c.route_end.result (λ words. EndsBy c.in_ok-graph.graph c.deref.result.now c.vertex_of-start.result v words.items))
+    (subst (λ v. IfOk c.route_end.result (λ words. EndsBy c.in_ok-graph.graph c.deref.result.now c.vertex_of-start.result v words))
     (c.vertex_of-end.ensures ∙ ap (λ (ls : List Lsa). vertex_of_router ls c.args.to) c.as_slice-lsas.ensures.items) c.route_end.ensures)))

@@ -3,7 +3,7 @@ use Rattle.decide_cases.proofs.conditions.are_parts.Goals as goal
 
 pub returns : goal.returns
 returns c = λ yes. record {
-  paths = λ k d k_in. (c.are_requests.ensures.each yes k d k_in).0;
+  requests = λ k d k_in. (c.are_requests.ensures.each yes k d k_in).0;
   excluded = λ k d k_in. (c.are_requests.ensures.each yes k d k_in).1;
   low_count = search rules;
   var_count = search rules;
@@ -12,5 +12,5 @@ returns c = λ yes. record {
   named = search rules;
   each_named = search rules;
   words = search rules;
-  path_count = c.are_requests.ensures.few yes;
+  request_count = c.are_requests.ensures.few yes;
 }

@@ -2,7 +2,7 @@
 use Rattle.std.proofs.lemmas.Result.{err_from_is_err_and}
 use Rattle.std.proofs.Common.{refl, inr}
 use Rattle.form_search.proofs.AdvisorLaws.{left_alike}
-use Rattle.command_words.specs.Jobs.{limits_seen}
+use Rattle.wide_fraction.specs.SearchLimits.{limits_seen}
 use Rattle.input_files.specs.declared.problem.View.TheVariants.{AsRequested}
 use Rattle.input_files.specs.Outcomes.{outcome}
 use Rattle.input_files.specs.Stops.{files_named}

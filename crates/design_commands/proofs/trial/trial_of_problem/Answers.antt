@@ -1,6 +1,6 @@
 -- The report of the answer.
 use Rattle.std.proofs.Common.{refl, subst}
-use Rattle.command_words.specs.Jobs.{SearchLimits, limits_seen}
+use Rattle.wide_fraction.specs.SearchLimits.{SearchLimits, limits_seen}
 use Rattle.design_commands.specs.Designs.{IsAnswerTo}
 use Rattle.design_commands.specs.Trials.{trial_limits}
 use Rattle.design_commands.proofs.Asking.{same_asked}

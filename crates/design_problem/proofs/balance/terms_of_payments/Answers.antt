@@ -3,7 +3,7 @@ use Rattle.std.specs.Prelude.{ℤ}
 use Rattle.std.proofs.lemmas.Int.{to_z-of_z}
 use Rattle.std.proofs.lemmas.List.{take_all}
 use Rattle.design_problem.specs.declared.form.Term.{Term}
-use Rattle.design_problem.specs.declared.tally.Payment.{Payment}
+use Rattle.design_problem.specs.declared.payments.Payment.{Payment}
 use Rattle.design_problem.specs.Forms.{AreTerms, coefficient_of, term_of}
 use Rattle.design_problem.specs.Payments.{balance_of}
 use Rattle.design_problem.proofs.PaymentLaws.{balanced_turn, before_later, more_terms}
@@ -40,4 +40,5 @@ returns-clause-balances c = λ v.
     ap (λ (ts : List Term). coefficient_of ts v) (c.in_ok-push_term.ensures
     ∙ ap (λ (z : ℤ). c.loop-payment.terms.items ++ term_of c.loop-payment.balance.var z) (to_z-of_z w64 sum fits))
     ∙ c.loop-payment.invariant.balanced.told v
-    ∙ ap (λ (ps : List Payment). balance_of ps v) (take_all c.loop-payment.payment-index c.args.payments.now (let past = c.loop-payment-test.false in omega arith))
+    ∙ ap (λ (ps : List Payment). balance_of ps v) (take_all c.loop-payment.payment-index c.args.payments.now
+    (let past = c.loop-payment-test.false in omega arith))

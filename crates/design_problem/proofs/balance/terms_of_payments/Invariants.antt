@@ -1,5 +1,5 @@
 use Rattle.std.proofs.Common.{◌≤◌, ◌<◌, ℕ, get_or, length, take}
-use Rattle.design_problem.specs.declared.tally.Payment.{Payment}
+use Rattle.design_problem.specs.declared.payments.Payment.{Payment}
 use Rattle.design_problem.proofs.PaymentLaws.{AreBalanced}
 use Rattle.design_problem.proofs.balance.terms_of_payments.Given as goal
 

@@ -1,5 +1,5 @@
 use Rattle.std.proofs.Common.{◌+◌, ◌<◌, ◌∷◌, refl, sym, ◌∙◌, ap, subst, get_or, length, length-set, reverse, ℕ}
-use Rattle.design_problem.specs.declared.form.CostBox.{CostBox}
+use Rattle.design_problem.specs.declared.boxes.CostBox.{CostBox}
 use Rattle.design_problem.specs.declared.open_boxes.Change.{Change}
 use Rattle.design_problem.specs.declared.open_boxes.Change.TheVariants.{Low, Second}
 use Rattle.design_problem.specs.Stack.{waiting}

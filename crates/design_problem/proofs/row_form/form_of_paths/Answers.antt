@@ -1,6 +1,6 @@
 use Rattle.std.proofs.Common.{◌∙◌, ap, rules, arith, length, subst, sym, List, SFits, w64, All, ◌<◌}
 use Rattle.std.proofs.lemmas.Int.{to_z-of_z}
-use Rattle.design_problem.specs.declared.tally.Payment.{Payment}
+use Rattle.design_problem.specs.declared.payments.Payment.{Payment}
 use Rattle.design_problem.specs.Payments.{balance_of}
 use Rattle.design_problem.proofs.PaymentLaws.{form_balanced, sorted_few, sorted_known}
 use Rattle.design_problem.proofs.row_form.form_of_paths.Goals as goal

@@ -69,8 +69,10 @@ pub returns-in-Conflict-clause-made : goal.returns-in-Conflict-clause-made
 returns-in-Conflict-clause-made g c =
     let given = g.S.Shelf.gave c.args.shelf.now c.conflict_report.new.shelf in
     let s = search_seen c.in-Conflict.search in
-    search_made given _ c.args.job.now (read.Conflict s) (MayConflict s.limits) _ _ c.conflict_report.result (files_named c.words-in-Conflict.result) (searched s)
-    (ap read.seen c.in-Conflict.is) c.words-in-Conflict.ensures c.conflict_report.ensures.read c.conflict_report.ensures.stopped (λ came h. h) (λ came bytes h. h)
+    search_made given _ c.args.job.now (read.Conflict s) (MayConflict s.limits) _ _ c.conflict_report.result (files_named c.words-in-Conflict.result)
+    (searched s)
+    (ap read.seen c.in-Conflict.is) c.words-in-Conflict.ensures c.conflict_report.ensures.read c.conflict_report.ensures.stopped (λ came h. h)
+    (λ came bytes h. h)
 
 pub returns-in-Spread-clause-made : goal.returns-in-Spread-clause-made
 returns-in-Spread-clause-made g c =
@@ -101,15 +103,15 @@ returns-in-Change-clause-advisors g c = left_alike _ _ _ refl
 
 pub returns-in-Steps-clause-made : goal.returns-in-Steps-clause-made
 returns-in-Steps-clause-made g c =
-    let given = g.S.Shelf.gave c.args.shelf.now c.steps_report.new.shelf in
-    let words = c.steps_words-steps in
+    let given = g.S.Shelf.gave c.args.shelf.now c.made_steps.new.shelf in
+    let names = input_files_of c.deref-in-Steps.result.now (texts c.deref-in-Steps-3.result.now) in
+    let words = c.wanted in
     job_made given _ c.args.job.now
-    (read.Steps c.deref-in-Steps-2.result.now c.deref-in-Steps.result.now c.in-Steps.nodes c.in-Steps.by (texts c.deref-in-Steps-3.result.now))
-    c.steps_report.result
+    (read.Steps c.deref-in-Steps.result.now c.deref-in-Steps-2.result.now c.in-Steps.nodes c.in-Steps.by (texts c.deref-in-Steps-3.result.now))
+    c.made_steps.result
     (rw (c.in-Steps.is, c.deref-in-Steps.ensures, c.deref-in-Steps-2.ensures, c.deref-in-Steps-3.ensures.value) refl) (λ came bytes. refl)
-    (steps_made given (files_named c.files-in-Steps.result) (input_files_of c.deref-in-Steps-2.result.now (texts c.deref-in-Steps-3.result.now))
-    words.result.answer.now c.deref-in-Steps.result.now words.result.nodes c.in-Steps.nodes words.result.by c.in-Steps.by c.steps_report.result
-    c.files-in-Steps.ensures words.ensures.answer words.ensures.nodes words.ensures.by c.steps_report.ensures)
+    (steps_made given names names words.result.answer.now c.deref-in-Steps-2.result.now words.result.nodes c.in-Steps.nodes
+    words.result.by c.in-Steps.by c.made_steps.result refl words.ensures.answer words.ensures.nodes words.ensures.by c.made_steps.ensures)
 
 pub returns-in-Steps-clause-advisors : goal.returns-in-Steps-clause-advisors
 returns-in-Steps-clause-advisors g c = left_alike _ _ _ refl

@@ -26,8 +26,8 @@ first_unequal-requires-clause-given c =
 
 pub returns-in-Some-clause-first : goal.returns-in-Some-clause-first
 returns-in-Some-clause-first c =
-    stop_at (HasUnequalEnds c.args.problem.now.vars c.args.lines.now) 53 c.in-Some.var c.from.result c.from.ensures
-    (subst (λ (ns : List VarName). IsFirstPlace (HasUnequalEnds ns c.args.lines.now) (Some c.in-Some.var)) c.names_of.ensures c.in-Some.ensures)
+    rw c.at.ensures (stop_at (HasUnequalEnds c.args.problem.now.vars c.args.lines.now) 53 c.in-Some.var c.from.result c.from.ensures
+    (subst (λ (ns : List VarName). IsFirstPlace (HasUnequalEnds ns c.args.lines.now) (Some c.in-Some.var)) c.names_of.ensures c.in-Some.ensures))
 
 pub returns-in-None-clause-names : goal.returns-in-None-clause-names
 returns-in-None-clause-names c =

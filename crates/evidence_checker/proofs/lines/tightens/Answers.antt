@@ -2,7 +2,7 @@ use Rattle.std.proofs.Common.{◌<◌, ◌∙◌, ap, subst, refl, length, rules
 use Rattle.std.specs.Int.{w128}
 use Rattle.std.proofs.lemmas.Int.{to_z-of_z}
 use Rattle.evidence_checker.proofs.LineLaws.{tightens_iff}
-use Rattle.evidence_checker.proofs.PartLaws.{form_read}
+use Rattle.design_problem.proofs.PartLaws.{form_read}
 use Rattle.evidence_checker.proofs.lines.tightens.Goals as goal
 
 pub returns : goal.returns

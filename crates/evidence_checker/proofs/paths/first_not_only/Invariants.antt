@@ -4,4 +4,4 @@ use Rattle.evidence_checker.specs.Costs.{IsOnlyAt}
 use Rattle.evidence_checker.proofs.paths.first_not_only.Given as goal
 
 abbrev pub invariant-loop-index : goal.invariant-loop-index
-invariant-loop-index l = (k : ℕ) (d : Request) → k < l.index → IsOnlyAt l.graph l.costs (get_or l.paths k d)
+invariant-loop-index l = (k : ℕ) (d : Request) → k < l.index → IsOnlyAt l.graph l.costs (get_or l.requests k d)

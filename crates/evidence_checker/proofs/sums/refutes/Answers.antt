@@ -5,7 +5,7 @@ use Rattle.std.proofs.lemmas.Int.{to_z-of_z}
 use Rattle.design_problem.specs.Boxes.{upper_sum}
 use Rattle.design_problem.specs.Forms.{weighted, IsSmallForm}
 use Rattle.evidence_checker.proofs.Sizes.{negative_iff}
-use Rattle.evidence_checker.proofs.PartLaws.{made_fits, made_greatest}
+use Rattle.design_problem.proofs.PartLaws.{made_fits, made_greatest}
 use Rattle.evidence_checker.proofs.sums.refutes.Goals as goal
 
 pub greatest_sum-requires-clause-size : goal.greatest_sum-requires-clause-size

@@ -2,14 +2,15 @@ use Rattle.std.proofs.Common.{◌≡◌, ℕ, ◌+◌, sym, ◌∙◌, ap, subst
 use Rattle.std.specs.Prelude.{false}
 use Rattle.std.proofs.lemmas.List.Elements.{All-cons, All-nil}
 use Rattle.cost_base.specs.Order.{FirstOf}
+use Rattle.cost_base.proofs.ListLemmas.{drop_read}
 use Rattle.design_problem.specs.Forms.{IsSmallForm}
-use Rattle.design_problem.specs.declared.form.CostBox.{CostBox}
+use Rattle.design_problem.specs.declared.boxes.CostBox.{CostBox}
 use Rattle.design_problem.specs.declared.tree.Entry.{Entry}
 use Rattle.design_problem.specs.Trees.{SoundAt, is_undone}
 use Rattle.evidence_checker.specs.Numbers.{check_fault_number}
 use Rattle.evidence_checker.specs.Tests.{line_tests}
 use Rattle.evidence_checker.proofs.Choices.{when_true, when_false}
-use Rattle.evidence_checker.proofs.WalkLaws.{HaveEnds, Walks, line_read, next_have_ends, walk_begins, walk_ends, walk_goes_on, walk_stops}
+use Rattle.evidence_checker.proofs.WalkLaws.{HaveEnds, Walks, next_have_ends, walk_begins, walk_ends, walk_goes_on, walk_stops}
 use Rattle.evidence_checker.proofs.tree.check_lines.Goals.{After-index-entries-line}
 use Rattle.evidence_checker.proofs.tree.check_lines.Goals as goal
 
@@ -57,7 +58,7 @@ walks_here : (c : After-index-entries-line) →
 walks_here c =
     subst (λ (es : List Entry). Walks c.args.forms.now (c.args.boxes.now.present ∷ []) c.args.entries.now c.loop-line.boxes.present
     c.loop-line.boxes.behind c.loop-line.line es)
-    (line_read c.args.entries.now c.loop-line.line c.index-entries-line.result c.loop-line-test.true c.index-entries-line.is) c.loop-line.invariant.walks
+    (drop_read c.args.entries.now c.loop-line.line c.index-entries-line.result c.loop-line-test.true c.index-entries-line.is) c.loop-line.invariant.walks
 
 pub returns-in-Some-clause-first : goal.returns-in-Some-clause-first
 returns-in-Some-clause-first c =
@@ -65,8 +66,9 @@ returns-in-Some-clause-first c =
     let boxes = c.loop-line.boxes in
     let entry = c.index-entries-line.result in
     let walks = walks_here (goal.at.returns-in-Some-clause-first c).After-index-entries-line in
-    inl (walk_stops forms (c.args.boxes.now.present ∷ []) c.args.entries.now boxes.present boxes.behind c.loop-line.line entry _ (check_fault_number c.in-Some.fault) walks
-    (subst (λ (box : CostBox). FirstOf (line_tests forms box entry) (check_fault_number c.in-Some.fault)) c.present.ensures.present c.in-Some.ensures.first))
+    rw c.at.ensures (inl (walk_stops forms (c.args.boxes.now.present ∷ []) c.args.entries.now boxes.present boxes.behind c.loop-line.line entry _
+    (check_fault_number c.in-Some.fault) walks
+    (subst (λ (box : CostBox). FirstOf (line_tests forms box entry) (check_fault_number c.in-Some.fault)) c.present.ensures.present c.in-Some.ensures.first)))
 
 pub returns-then-not-branch-clause-sound : goal.returns-then-not-branch-clause-sound
 returns-then-not-branch-clause-sound c =
@@ -88,8 +90,8 @@ loop-line-preserved c =
     let next = when_true _ _ c.in_ok-go_on.field-0 c.if-not-branch.false c.in_ok-go_on.ensures in
     record {
       walks = walk_goes_on forms (c.args.boxes.now.present ∷ []) c.args.entries.now boxes.present boxes.behind c.loop-line.line
-          entry _ c.go_on.new.boxes.present c.go_on.new.boxes.behind walks here.0 here.1 next;
-      ends = next_have_ends (length c.args.boxes.now.present.low) boxes.present boxes.behind entry c.go_on.new.boxes.present
-          c.go_on.new.boxes.behind c.loop-line.invariant.ends next;
+          entry _ c.go_on.new.self.present c.go_on.new.self.behind walks here.0 here.1 next;
+      ends = next_have_ends (length c.args.boxes.now.present.low) boxes.present boxes.behind entry c.go_on.new.self.present
+          c.go_on.new.self.behind c.loop-line.invariant.ends next;
       sums = c.in_default.ensures.sums ∙ c.loop-line.invariant.sums;
     }

@@ -1,6 +1,6 @@
 use Rattle.std.proofs.Common.{None}
 use Rattle.std.specs.Option.{option_copied}
-use Rattle.evidence_text.specs.Parts.{floor_line}
+use Rattle.design_problem.specs.Text.{floor_line}
 use Rattle.answer_lines.specs.Grammar.{AtFloor, AtSections}
 use Rattle.evidence_reader.proofs.SectionLines.{ends-behind, lacks-both}
 use Rattle.evidence_reader.proofs.stage_costs.floor_behind.Goals as goal

@@ -1,10 +1,9 @@
 use Rattle.std.proofs.Common.{◌++◌, ◌∷◌, [], Option, sym, subst}
 use Rattle.std.proofs.lemmas.Result.{err_from_is_err_and, MatchResult-weaker}
 use Rattle.design_problem.specs.declared.answer.Costs.{Costs}
-use Rattle.design_problem.specs.Text.{costs_lines, FitsCosts}
+use Rattle.design_problem.specs.Text.{costs_lines, FitsCosts, floor_line}
 use Rattle.answer_lines.specs.Grammar.{AtCosts, AtRows}
 use Rattle.answer_lines.specs.Going.{Goes}
-use Rattle.evidence_text.specs.Parts.{floor_line}
 use Rattle.evidence_reader.proofs.NextPlaces.{go-then, stop-then}
 use Rattle.evidence_reader.proofs.stage_costs.read_costs.Goals as goal
 

@@ -1,10 +1,9 @@
 use Rattle.std.proofs.Common.{◌++◌, ◌∷◌, [], List, All, None, refl, sym, subst}
 use Rattle.std.proofs.lemmas.Result.{err_from_is_err_and}
 use Rattle.design_problem.specs.declared.answer.CostLine.{CostLine}
-use Rattle.design_problem.specs.Text.{cost_lines, FitsCostLine}
+use Rattle.design_problem.specs.Text.{cost_lines, FitsCostLine, floor_line}
 use Rattle.answer_lines.specs.Grammar.{AtSections, AtRows}
 use Rattle.answer_lines.specs.Going.{Goes}
-use Rattle.evidence_text.specs.Parts.{floor_line}
 use Rattle.evidence_reader.proofs.NextPlaces.{go-then, stop-then}
 use Rattle.evidence_reader.proofs.stage_costs.some_costs.Goals as goal
 

@@ -1,9 +1,9 @@
 use Rattle.std.proofs.Common.{ℕ, List, subst}
 use Rattle.std.proofs.lemmas.Result.{err_from_is_err_and, MatchResult-weaker}
 use Rattle.answer_lines.specs.Grammar.{AtTree, AfterEnd}
-use Rattle.evidence_text.specs.Parts.{end_lines}
+use Rattle.design_problem.specs.Text.{end_lines}
 use Rattle.answer_lines.specs.Lawful.{IsRead}
-use Rattle.evidence_text.specs.declared.TreePart.TheVariants.{Unfinished}
+use Rattle.evidence_text.specs.declared.TreePart.TheVariants.{Undecided}
 use Rattle.evidence_reader.proofs.NextPlaces.{stop-then, go-then}
 use Rattle.evidence_reader.proofs.stage_end.read_end.Goals as goal
 
@@ -23,7 +23,7 @@ returns c =
     MatchResult-weaker c.nothing_left.result c.nothing_left.ensures.end
     (λ _ none. (
       c.in_ok-end.end.read,
-      subst (λ (left : List ℕ). IsRead (AtTree Unfinished 0 0) c.args.text.read c.args.text.left.now end_lines
+      subst (λ (left : List ℕ). IsRead (AtTree Undecided 0 0) c.args.text.read c.args.text.left.now end_lines
           AfterEnd c.in_ok-end.end.read left) none both,
     ))
     (λ stop h. stop-then stop both h)

@@ -2,7 +2,7 @@ use Rattle.std.proofs.Common.{None, refl}
 use Rattle.std.proofs.lemmas.Result.{err_from_is_err_and, MatchResult-weaker}
 use Rattle.evidence_reader.proofs.NextPlaces.{stop-then}
 use Rattle.evidence_reader.proofs.SectionLines.{words_read}
-use Rattle.evidence_text.specs.Parts.{interface_line}
+use Rattle.design_problem.specs.Text.{interface_line}
 use Rattle.evidence_reader.proofs.stage_sections.cost_of_router.Goals as goal
 
 pub returns-in_err-interface : goal.returns-in_err-interface

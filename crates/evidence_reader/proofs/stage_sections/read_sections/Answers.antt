@@ -1,7 +1,7 @@
 use Rattle.std.proofs.Common.{ℕ, List, All, None, Some, ap, sym, subst, ◌∙◌}
 use Rattle.std.specs.Option.{option_copied}
 use Rattle.std.proofs.lemmas.Result.{err_from_is_err_and}
-use Rattle.std.proofs.lemmas.List.Elements.{All-nil}
+use Rattle.std.proofs.lemmas.List.Elements.{All-nil, All-push}
 use Rattle.design_problem.specs.declared.answer.CostLine.{CostLine}
 use Rattle.design_problem.specs.Text.{cost_lines, FitsCostLine}
 use Rattle.evidence_reader.specs.Stages.{lines_of_words}
@@ -9,7 +9,6 @@ use Rattle.answer_lines.specs.Grammar.{AtSections}
 use Rattle.answer_lines.specs.Going.{Goes}
 use Rattle.answer_lines.proofs.FirstLines.{read-none}
 use Rattle.evidence_reader.proofs.NextPlaces.{go-then, stop-then}
-use Rattle.answer_lines.proofs.NumberWords.{All-more}
 use Rattle.evidence_reader.proofs.SectionLines.{router_before, router_before-more, cost_more, read-shorter, some_lines}
 use Rattle.evidence_reader.proofs.stage_sections.read_sections.Goals as goal
 
@@ -37,8 +36,8 @@ loop-lines-preserved c =
     let lines = c.loop-lines.lines.items in
     let more = c.push.new.self.items in
     let grown = c.in_ok-push.ensures.items in
-    let line = c.in_ok-cost_line_of.field-0 in
-    let is = c.in_ok-cost_line_of.ensures in
+    let line = c.in_ok-cost_line.field-0 in
+    let is = c.in_ok-cost_line.ensures in
     let fit = (rw c.in-Some.is at c.in_ok-words.ensures None).0 in
     let fits : FitsCostLine line =
     subst (λ (l : CostLine). FitsCostLine l) (sym is) (record { router = fit.router; interface = fit.interface; cost = fit.cost }) in
@@ -47,7 +46,7 @@ loop-lines-preserved c =
           λ of. subst (λ (l : List (List ℕ)). Goes (AtSections of None) c.args.text l (AtSections of (Some words.router.now))
           c.in-Some.rest) (cost_more before lines more line words c.loop-lines.invariant.last grown is)
           (go-then (c.loop-lines.invariant.goes of) (rw c.in-Some.is at c.in_ok-words.ensures of).1);
-      fits = subst (λ (l : List CostLine). All FitsCostLine l) (sym grown) (All-more FitsCostLine lines line c.loop-lines.invariant.fits fits);
+      fits = subst (λ (l : List CostLine). All FitsCostLine l) (sym grown) (All-push FitsCostLine lines line c.loop-lines.invariant.fits fits);
       last = sym (ap (router_before None) grown ∙ router_before-more None lines line ∙ ap (λ (l : CostLine). Some l.router) is);
       word = fit.router;
     }

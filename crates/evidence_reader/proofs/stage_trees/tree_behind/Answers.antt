@@ -1,6 +1,6 @@
 use Rattle.std.proofs.Common.{◌≡◌, ◌≢◌, ◌+◌, ◌-◌, List, [], ◌∷◌, All, ap, sym, subst, length, length-append, map, arith}
 use Rattle.std.proofs.lemmas.Result.{err_from_is_err_and}
-use Rattle.std.proofs.lemmas.List.Elements.{All-nil}
+use Rattle.std.proofs.lemmas.List.Elements.{All-nil, All-push}
 use Rattle.design_problem.specs.declared.tree.Entry.{Entry}
 use Rattle.design_problem.specs.Text.{entry_line, FitsEntry}
 use Rattle.design_problem.specs.Trees.{subtree_count}
@@ -8,7 +8,6 @@ use Rattle.answer_lines.specs.Grammar.{AtTree}
 use Rattle.answer_lines.specs.Going.{Goes}
 use Rattle.evidence_text.specs.declared.TreePart.TheVariants.{Proof}
 use Rattle.evidence_reader.proofs.NextPlaces.{stop-then}
-use Rattle.answer_lines.proofs.NumberWords.{All-more}
 use Rattle.evidence_reader.proofs.TreeLines.{shut_short, entries_begin, entry_more, entry_stop, entries_done, LeavesOpen, open_none, open_more, open_done}
 use Rattle.evidence_reader.proofs.stage_trees.tree_behind.Goals as goal
 
@@ -46,7 +45,7 @@ loop-preserved c =
           (AtTree part n (c.args.count - (i + 1))) c.in_ok-entry.rest) next
           (entry_more part c.args.count i places entries c.push.new.self.items entry c.loop-test.true grown
           (c.loop.invariant.goes part) (c.in_ok-entry.ensures part (c.args.count - (i + 1))).2);
-      fits = subst (λ (l : List Entry). All FitsEntry l) (sym grown) (All-more FitsEntry entries entry c.loop.invariant.fits read.1);
+      fits = subst (λ (l : List Entry). All FitsEntry l) (sym grown) (All-push FitsEntry entries entry c.loop.invariant.fits read.1);
       leaves = subst (λ n. LeavesOpen n c.push.new.self.items) next (open_more places entries c.push.new.self.items entry some grown c.loop.invariant.leaves);
     }
 

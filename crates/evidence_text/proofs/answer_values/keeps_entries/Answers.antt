@@ -3,7 +3,7 @@ use Rattle.std.proofs.Common.{List, All, subst}
 use Rattle.std.proofs.lemmas.List.{take_all}
 use Rattle.std.proofs.lemmas.List.Elements.{All-more}
 use Rattle.design_problem.specs.declared.tree.Entry.{Entry}
-use Rattle.design_problem.specs.Bounds.{BoundsEntry}
+use Rattle.design_problem.specs.AnswerRanges.{BoundsEntry}
 use Rattle.evidence_text.proofs.answer_values.keeps_entries.Goals as goal
 
 pub loop-entry-preserved : goal.loop-entry-preserved

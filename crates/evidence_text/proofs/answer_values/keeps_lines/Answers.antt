@@ -3,7 +3,7 @@ use Rattle.std.proofs.Common.{List, All, subst}
 use Rattle.std.proofs.lemmas.List.{take_all}
 use Rattle.std.proofs.lemmas.List.Elements.{All-more}
 use Rattle.design_problem.specs.declared.answer.CostLine.{CostLine}
-use Rattle.design_problem.specs.Bounds.{IsCost}
+use Rattle.design_problem.specs.AnswerRanges.{IsCost}
 use Rattle.evidence_text.proofs.answer_values.keeps_lines.Goals as goal
 
 pub loop-line-preserved : goal.loop-line-preserved

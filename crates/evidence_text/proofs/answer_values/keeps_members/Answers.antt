@@ -3,7 +3,7 @@ use Rattle.std.proofs.Common.{List, All, subst}
 use Rattle.std.proofs.lemmas.List.{take_all}
 use Rattle.std.proofs.lemmas.List.Elements.{All-more}
 use Rattle.design_problem.specs.declared.tree.Member.{Member}
-use Rattle.design_problem.specs.Bounds.{BoundsMember}
+use Rattle.design_problem.specs.AnswerRanges.{BoundsMember}
 use Rattle.evidence_text.proofs.answer_values.keeps_members.Goals as goal
 
 pub loop-member-preserved : goal.loop-member-preserved

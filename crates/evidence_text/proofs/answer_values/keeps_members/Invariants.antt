@@ -1,6 +1,6 @@
 -- Those before are within their bounds.
 use Rattle.std.proofs.Common.{All, take}
-use Rattle.design_problem.specs.Bounds.{BoundsMember}
+use Rattle.design_problem.specs.AnswerRanges.{BoundsMember}
 use Rattle.evidence_text.proofs.answer_values.keeps_members.Given as goal
 
 abbrev pub invariant-loop-member : goal.invariant-loop-member

@@ -2,7 +2,7 @@
 use Rattle.std.proofs.Common.{ℕ, List, All, subst}
 use Rattle.std.proofs.lemmas.List.{take_all}
 use Rattle.std.proofs.lemmas.List.Elements.{All-more}
-use Rattle.design_problem.specs.Bounds.{IsRowNumber}
+use Rattle.design_problem.specs.AnswerRanges.{IsRowNumber}
 use Rattle.evidence_text.proofs.answer_values.keeps_row_numbers.Goals as goal
 
 pub loop-part-preserved : goal.loop-part-preserved

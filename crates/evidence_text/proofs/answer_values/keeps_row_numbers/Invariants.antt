@@ -1,6 +1,6 @@
 -- Those before are within their bounds.
 use Rattle.std.proofs.Common.{ℕ, All, take}
-use Rattle.design_problem.specs.Bounds.{IsRowNumber}
+use Rattle.design_problem.specs.AnswerRanges.{IsRowNumber}
 use Rattle.evidence_text.proofs.answer_values.keeps_row_numbers.Given as goal
 
 abbrev pub invariant-loop-part : goal.invariant-loop-part

@@ -3,7 +3,7 @@ use Rattle.std.proofs.Common.{List, All, subst}
 use Rattle.std.proofs.lemmas.List.{take_all}
 use Rattle.std.proofs.lemmas.List.Elements.{All-more}
 use Rattle.design_problem.specs.declared.form.Row.{Row}
-use Rattle.design_problem.specs.Bounds.{BoundsRow}
+use Rattle.design_problem.specs.AnswerRanges.{BoundsRow}
 use Rattle.evidence_text.proofs.answer_values.keeps_rows.Goals as goal
 
 pub loop-row-preserved : goal.loop-row-preserved

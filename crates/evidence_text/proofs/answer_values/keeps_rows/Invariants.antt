@@ -1,6 +1,6 @@
 -- Those before are within their bounds.
 use Rattle.std.proofs.Common.{All, take}
-use Rattle.design_problem.specs.Bounds.{BoundsRow}
+use Rattle.design_problem.specs.AnswerRanges.{BoundsRow}
 use Rattle.evidence_text.proofs.answer_values.keeps_rows.Given as goal
 
 abbrev pub invariant-loop-row : goal.invariant-loop-row

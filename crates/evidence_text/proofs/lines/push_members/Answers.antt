@@ -1,7 +1,7 @@
 use Rattle.std.proofs.Common.{◌+◌, ◌∙◌, drop, get_or, sym}
 use Rattle.design_problem.specs.declared.tree.Member.TheVariants.{Low}
 use Rattle.design_problem.specs.Text.{member_words, members_words}
-use Rattle.evidence_text.specs.Lines.{with_words}
+use Rattle.line_builder.specs.Words.{with_words}
 use Rattle.evidence_text.proofs.WordLaws.{members_turn, room_left}
 use Rattle.evidence_text.proofs.lines.push_members.Goals as goal
 

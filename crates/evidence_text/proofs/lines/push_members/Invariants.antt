@@ -1,6 +1,6 @@
 use Rattle.std.proofs.Common.{◌≡◌, drop}
 use Rattle.design_problem.specs.Text.{members_words}
-use Rattle.evidence_text.specs.Lines.{with_words}
+use Rattle.line_builder.specs.Words.{with_words}
 use Rattle.evidence_text.proofs.lines.push_members.Given as goal
 
 abbrev pub invariant-loop-member : goal.invariant-loop-member

@@ -1,6 +1,6 @@
 use Rattle.std.proofs.Common.{◌≡◌, map, drop}
 use Rattle.cost_base.specs.Decimal.{decimal}
-use Rattle.evidence_text.specs.Lines.{with_words}
+use Rattle.line_builder.specs.Words.{with_words}
 use Rattle.evidence_text.proofs.lines.push_numbers.Given as goal
 
 abbrev pub invariant-loop-number : goal.invariant-loop-number

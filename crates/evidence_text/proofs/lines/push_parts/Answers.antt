@@ -1,6 +1,6 @@
 use Rattle.std.proofs.Common.{◌≡◌, ◌+◌, ◌∙◌, ◌∷◌, ◌++◌, ◌≤◌, ℕ, List, length, drop, get_or, sym, subst, ap, arith, length-append}
 use Rattle.cost_base.specs.Decimal.{decimal}
-use Rattle.design_problem.specs.Text.{part_words}
+use Rattle.design_problem.specs.Text.{multiplier_words}
 use Rattle.evidence_text.proofs.WordLaws.{parts_turn, room_left}
 use Rattle.evidence_text.proofs.lines.push_parts.Goals as goal
 
@@ -16,7 +16,7 @@ push_number-requires c =
     let i = c.loop-part.part-index in
     let parts = c.args.parts.now in
     let room = room_left ((line ++ 32 ∷ decimal (get_or parts i (0, 0)).0) ++ 32 ∷ decimal (get_or parts i (0, 0)).1) _
-    (part_words (drop (i + 1) parts)) (sym (parts_turn line parts i (0, 0) c.loop-part-test.true)
+    (multiplier_words (drop (i + 1) parts)) (sym (parts_turn line parts i (0, 0) c.loop-part-test.true)
     ∙ c.loop-part.invariant) c.requires in
     subst (λ (n : ℕ). length (line ++ 32 ∷ decimal n) ≤ 65536) (sym c.from.ensures) (both line parts i room)
 
@@ -26,7 +26,7 @@ push_number-requires-in-loop-part c =
     let i = c.loop-part.part-index in
     let parts = c.args.parts.now in
     let room = room_left ((line ++ 32 ∷ decimal (get_or parts i (0, 0)).0) ++ 32 ∷ decimal (get_or parts i (0, 0)).1) _
-    (part_words (drop (i + 1) parts)) (sym (parts_turn line parts i (0, 0) c.loop-part-test.true)
+    (multiplier_words (drop (i + 1) parts)) (sym (parts_turn line parts i (0, 0) c.loop-part-test.true)
     ∙ c.loop-part.invariant) c.requires in
     let first : line ++ 32 ∷ decimal (get_or parts i (0, 0)).0 ≡ c.push_number.new.self =
     ap (λ (n : ℕ). line ++ 32 ∷ decimal n) (sym c.from.ensures) ∙ sym c.push_number.ensures in

@@ -2,8 +2,8 @@ use Rattle.std.proofs.Common.{◌≡◌, ◌≤◌, ◌∷◌, ◌++◌, ℕ, Li
 use Rattle.cost_base.specs.Decimal.{decimal}
 use Rattle.design_problem.specs.declared.tree.Member.{Member}
 use Rattle.design_problem.specs.Text.{step_word, ratio_word, members_words}
-use Rattle.evidence_text.specs.Lines.{with_words}
-use Rattle.evidence_text.proofs.WordLaws.{spaced-with}
+use Rattle.line_builder.specs.Words.{with_words}
+use Rattle.line_builder.proofs.WordLaws.{spaced-with}
 use Rattle.evidence_text.proofs.lines.write_halve.Goals as goal
 
 -- words pushed one after another

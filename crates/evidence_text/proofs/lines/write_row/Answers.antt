@@ -1,8 +1,8 @@
 use Rattle.std.proofs.Common.{◌≡◌, ◌≤◌, ◌∷◌, ◌++◌, ℕ, List, length, map, codes, sym, subst, ap, ◌∙◌}
 use Rattle.cost_base.specs.Decimal.{decimal}
 use Rattle.design_problem.specs.Text.{row_line}
-use Rattle.evidence_text.specs.Lines.{with_words}
-use Rattle.evidence_text.proofs.WordLaws.{spaced-with}
+use Rattle.line_builder.specs.Words.{with_words}
+use Rattle.line_builder.proofs.WordLaws.{spaced-with}
 use Rattle.evidence_text.proofs.lines.write_row.Goals as goal
 
 -- the first two words of a row's line

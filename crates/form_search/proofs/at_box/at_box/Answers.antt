@@ -3,15 +3,15 @@ use Rattle.std.proofs.lemmas.Result.{IfOk-weaker, err_from_is_err_and}
 use Rattle.design_problem.specs.declared.tree.Side.{Side}
 use Rattle.design_problem.specs.Forms.{Form}
 use Rattle.design_problem.specs.Earnest.{IsLeastPoint}
-use Rattle.form_search.specs.declared.next_entry.Next.{Next}
-use Rattle.form_search.specs.Turns.{IsNextStep}
+use Rattle.form_search.specs.declared.desk.Next.{Next}
+use Rattle.form_search.specs.NextEntries.{IsNextStep}
 use Rattle.form_search.proofs.AdvisorLaws.{asked_next_there, halve_ready}
 use Rattle.form_search.proofs.OtherSources.{least_same, next_same, swapped}
 use Rattle.form_search.proofs.at_box.at_box.Goals as goal
 
 pub returns-in-Accepted-clause-next : goal.returns-in-Accepted-clause-next
 returns-in-Accepted-clause-next g c =
-    let Accepted = g.S.RowSource.accepted in
+    let Accepted = g.S.FormSource.accepted in
     let costs = c.args.costs.now in
     let old = c.args.pool.now in
     let new = c.relax.new.pool in
@@ -30,7 +30,7 @@ returns-in_err-relax-clause-asked g c =
 
 pub returns-in-Accepted-clause-asked : goal.returns-in-Accepted-clause-asked
 returns-in-Accepted-clause-asked g c =
-    let Accepted = g.S.RowSource.accepted in
+    let Accepted = g.S.FormSource.accepted in
     let old = c.args.source.now in
     let new = c.relax.new.source in
     asked_next_there (IsLeastPoint (Accepted new)) (IsLeastPoint (Accepted old)) _ c.args.costs.now c.at_least_point.result _ _

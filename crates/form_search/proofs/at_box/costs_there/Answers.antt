@@ -11,13 +11,13 @@ use Rattle.form_search.proofs.at_box.costs_there.Goals as goal
 
 pub whole_costs-requires-clause-most : goal.whole_costs-requires-clause-most
 whole_costs-requires-clause-most g c =
-    (cost_point (g.S.RowSource.count c.args.source.now) c.args.costs.now c.args.point.now c.requires.ranges
+    (cost_point (g.S.FormSource.count c.args.source.now) c.args.costs.now c.args.point.now c.requires.ranges
     c.requires.least.least.inside c.requires.least.small).most
 
 pub value_costs-requires : goal.value_costs-requires
 value_costs-requires g c =
     subst (λ (p : Point). All (λ (x : ℕ). x ≤ 65535) p.values) (sym c.are_values_accepted.ensures.point)
-    (inside_most (g.S.RowSource.count c.args.source.now) c.args.costs.now c.args.point.now.values c.requires.ranges
+    (inside_most (g.S.FormSource.count c.args.source.now) c.args.costs.now c.args.point.now.values c.requires.ranges
     (c.are_values_accepted.ensures.within c.if-are_values_accepted.true))
 
 pub is_whole-requires : goal.is_whole-requires
@@ -33,7 +33,8 @@ pub returns-in_err-whole_costs-clause-found : goal.returns-in_err-whole_costs-cl
 returns-in_err-whole_costs-clause-found g c = let p = err_from_is_err_and c.from_residual.result c.from_residual.ensures.1 in rw p.1 tt
 
 pub returns-in_err-whole_costs-clause-fractional : goal.returns-in_err-whole_costs-clause-fractional
-returns-in_err-whole_costs-clause-fractional g c = let p = err_from_is_err_and c.from_residual.result c.from_residual.ensures.1 in rw p.1 (λ none whole. absurd (cc))
+returns-in_err-whole_costs-clause-fractional g c = let p = err_from_is_err_and c.from_residual.result c.from_residual.ensures.1 in
+    rw p.1 (λ none whole. absurd (cc))
 
 pub returns-in_err-whole_costs-clause-point : goal.returns-in_err-whole_costs-clause-point
 returns-in_err-whole_costs-clause-point g c = refl
@@ -42,7 +43,8 @@ pub returns-in_err-whole_costs-clause-in_step : goal.returns-in_err-whole_costs-
 returns-in_err-whole_costs-clause-in_step g c = λ forms. (λ is. is, λ is. is)
 
 pub returns-in_err-whole_costs-clause-same : goal.returns-in_err-whole_costs-clause-same
-returns-in_err-whole_costs-clause-same g c = same_alike g.S.RowSource.count g.S.RowSource.accepted g.S.RowSource.true_form g.S.RowSource.candidates c.args.source.now
+returns-in_err-whole_costs-clause-same g c = same_alike g.S.FormSource.count g.S.FormSource.accepted g.S.FormSource.true_form g.S.FormSource.possible_forms
+    c.args.source.now
 
 pub are_values_accepted-requires-clause-ranges : goal.are_values_accepted-requires-clause-ranges
 are_values_accepted-requires-clause-ranges g c = c.requires.ranges
@@ -51,10 +53,12 @@ pub are_values_accepted-requires-clause-inside : goal.are_values_accepted-requir
 are_values_accepted-requires-clause-inside g c = c.requires.least.least.inside
 
 pub returns-in_err-value_costs-clause-found : goal.returns-in_err-value_costs-clause-found
-returns-in_err-value_costs-clause-found g c = let p = err_from_is_err_and c.from_residual-in_err-value_costs.result c.from_residual-in_err-value_costs.ensures.1 in rw p.1 tt
+returns-in_err-value_costs-clause-found g c = let p = err_from_is_err_and c.from_residual-in_err-value_costs.result c.from_residual-in_err-value_costs.ensures.1
+    in rw p.1 tt
 
 pub returns-in_err-value_costs-clause-fractional : goal.returns-in_err-value_costs-clause-fractional
-returns-in_err-value_costs-clause-fractional g c = let p = err_from_is_err_and c.from_residual-in_err-value_costs.result c.from_residual-in_err-value_costs.ensures.1 in rw p.1 (λ none whole. absurd (cc))
+returns-in_err-value_costs-clause-fractional g c = let p = err_from_is_err_and c.from_residual-in_err-value_costs.result
+    c.from_residual-in_err-value_costs.ensures.1 in rw p.1 (λ none whole. absurd (cc))
 
 pub returns-in_err-value_costs-clause-point : goal.returns-in_err-value_costs-clause-point
 returns-in_err-value_costs-clause-point g c = c.are_values_accepted.ensures.point
@@ -72,8 +76,8 @@ returns-in_ok-whole_costs-clause-found g c =
     let w = c.in_ok-whole_costs.field-0 in
     let least = c.requires.least.least in (
       scaled_inside c.args.costs.now point w least.inside c.in_ok-whole_costs.ensures,
-      g.met.S.RowSource.scale_is_free source w point.scale least.inside.scale
-          (subst (λ (p : Point). g.S.RowSource.accepted source p) (sym c.in_ok-whole_costs.ensures) least.accepted),
+      g.met.S.FormSource.scale_is_free source w point.scale least.inside.scale
+          (subst (λ (p : Point). g.S.FormSource.accepted source p) (sym c.in_ok-whole_costs.ensures) least.accepted),
       inl c.in_ok-whole_costs.ensures,
     )
 
@@ -87,7 +91,8 @@ pub returns-in_ok-whole_costs-clause-in_step : goal.returns-in_ok-whole_costs-cl
 returns-in_ok-whole_costs-clause-in_step g c = λ forms. (λ is. is, λ is. is)
 
 pub returns-in_ok-whole_costs-clause-same : goal.returns-in_ok-whole_costs-clause-same
-returns-in_ok-whole_costs-clause-same g c = same_alike g.S.RowSource.count g.S.RowSource.accepted g.S.RowSource.true_form g.S.RowSource.candidates c.args.source.now
+returns-in_ok-whole_costs-clause-same g c = same_alike g.S.FormSource.count g.S.FormSource.accepted g.S.FormSource.true_form g.S.FormSource.possible_forms
+    c.args.source.now
 
 pub returns-in_ok-value_costs-clause-found : goal.returns-in_ok-value_costs-clause-found
 returns-in_ok-value_costs-clause-found g c =
@@ -97,7 +102,7 @@ returns-in_ok-value_costs-clause-found g c =
     let is : w ≡ point.values = c.in_ok-value_costs.ensures ∙ ap (λ (p : Point). p.values) c.are_values_accepted.ensures.point in
     let taken = c.if-are_values_accepted.true in (
       subst (λ (xs : List ℕ). IsInBox c.args.costs.now xs) (sym is) (c.are_values_accepted.ensures.within taken),
-      subst (λ (xs : List ℕ). g.S.RowSource.accepted source (at_costs xs)) (sym is) (c.are_values_accepted.ensures.accepted taken),
+      subst (λ (xs : List ℕ). g.S.FormSource.accepted source (at_costs xs)) (sym is) (c.are_values_accepted.ensures.accepted taken),
       inr (λ whole. false≢true (sym c.if-is_whole.false ∙ c.is_whole.ensures.1 whole), is),
     )
 

@@ -22,7 +22,8 @@ returns-clause-split g c =
 pub returns-clause-asked : goal.returns-clause-asked
 returns-clause-asked g c =
     let at = subst
-    (λ (cs : List Candidate). (choice : Candidate) × (slice_get cs c.choose-picked.result ≡ Some choice) × (c.split_at.result ≡ Split choice.var choice.floor))
-    c.deref-2.ensures.value c.split_at.ensures.choice in
+    (λ (cs : List Candidate). (candidate : Candidate) × (slice_get cs c.choose-picked.result ≡ Some candidate) ×
+    (c.split_at.result ≡ Split candidate.var candidate.floor))
+    c.deref-2.ensures.value c.split_at.ensures.candidate in
     asked_split _ c.args.costs.now c.args.point.now c.in_ok-candidates.candidates.items c.deref.result.now
     c.choose-picked.result c.split_at.result _ _ c.in_ok-candidates.ensures.all c.deref.ensures.value c.choose-picked.ensures.chosen at

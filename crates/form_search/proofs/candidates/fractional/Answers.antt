@@ -4,7 +4,7 @@ use Rattle.std.proofs.lemmas.Result.{err_from_is_err_and}
 use Rattle.std.specs.Prelude.{All}
 use Rattle.std.proofs.lemmas.List.Elements.{All-nil}
 use Rattle.area_graph.specs.declared.Point.{Point}
-use Rattle.design_problem.specs.declared.form.CostBox.{CostBox}
+use Rattle.design_problem.specs.declared.boxes.CostBox.{CostBox}
 use Rattle.cut_advisors.specs.declared.candidate.Candidate.{Candidate}
 use Rattle.form_search.specs.Points.{IsFractional, candidate_of, candidates_below}
 use Rattle.form_search.proofs.CandidateLaws.{some_fractional}
@@ -34,7 +34,8 @@ loop-var-preserved c =
       found = now.fractional;
       some = λ k before fractional. elim (cases_lt k var) [
         | inl less ↦ (let some = was.some k less fractional in let more = now.more in omega (arith, some, more))
-        | inr not ↦ (let same : k ≡ var = omega (arith, before, not) in now.some (subst (λ (i : ℕ). get_or point.values i 0 % point.scale ≡ 0 → ⊥) same fractional))
+        | inr not ↦ (let same : k ≡ var = omega (arith, before, not) in
+            now.some (subst (λ (i : ℕ). get_or point.values i 0 % point.scale ≡ 0 → ⊥) same fractional))
       ];
     }
 

@@ -4,8 +4,8 @@ use Rattle.design_problem.specs.Forms.{Form}
 use Rattle.design_problem.specs.Boxes.{greatest}
 use Rattle.design_problem.specs.Forms.{form_at}
 use Rattle.design_problem.specs.declared.tree.Entry.{Entry}
-use Rattle.form_search.specs.declared.next_entry.Next.TheVariants.{Entry as ByEntry}
-use Rattle.form_search.specs.Turns.{IsUnsplit}
+use Rattle.form_search.specs.declared.desk.Next.TheVariants.{Entry as ByEntry}
+use Rattle.form_search.specs.NextEntries.{IsUnsplit}
 use Rattle.form_search.proofs.NextEntries.{next_refute, row_next}
 use Rattle.form_search.proofs.one_point.at_one_point.Goals as goal
 
@@ -18,7 +18,7 @@ returns-in_ok-refute_by-in-Some-clause-next g c =
     let found = subst (λ (fs : List Form). (row < length fs) × (greatest (form_at fs row) costs <ℤ pos 0)) c.as_slice.ensures c.in-Some.ensures in
     record {
       step = λ top since.
-          row_next (g.S.RowSource.accepted c.args.source.now) top pool (record { box = costs; since = since }) entry
+          row_next (g.S.FormSource.accepted c.args.source.now) top pool (record { box = costs; since = since }) entry
           (next_refute pool row (record { box = costs; since = since }) (form_at pool row) costs entry found.0 refl refl found.1
           c.in_ok-refute_by-in-Some.ensures);
       unsplit = subst (λ (e : Entry). IsUnsplit (ByEntry e)) (sym c.in_ok-refute_by-in-Some.ensures) tt;

@@ -1,7 +1,7 @@
 use Rattle.std.proofs.Common.{length}
 use Rattle.std.specs.BinaryHeap.{heap_len}
 use Rattle.design_problem.specs.OpenPlaces.{first_place}
-use Rattle.form_search.specs.Turns.{IsWatch}
+use Rattle.form_search.specs.NextEntries.{IsWatch}
 use Rattle.form_search.proofs.propagation.propagated.Given as goal
 
 abbrev pub invariant-loop-row : goal.invariant-loop-row

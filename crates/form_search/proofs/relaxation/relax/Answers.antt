@@ -13,11 +13,11 @@ pub moved-requires-clause-fits : goal.moved-requires-clause-fits
 moved-requires-clause-fits g c =
     let source = c.args.source.now in
     let pool = c.args.pool.now in
-    let n = g.S.RowSource.count source in (
+    let n = g.S.FormSource.count source in (
       pool,
       c.take_tableau.ensures.kept,
-      fit_box n (g.S.RowSource.accepted source) c.args.costs.now pool c.requires.ranges
-          (λ k d k_in. g.met.S.RowSource.true_forms_hold source _ (c.requires.in_step.true_forms k d k_in)),
+      fit_box n (g.S.FormSource.accepted source) c.args.costs.now pool c.requires.ranges
+          (λ k d k_in. g.met.S.FormSource.true_forms_hold source _ (c.requires.in_step.true_forms k d k_in)),
     )
 
 pub moved-requires-clause-ranges : goal.moved-requires-clause-ranges
@@ -34,11 +34,12 @@ returns-in_err-table-clause-places g c = refl
 
 pub returns-in_err-table-clause-left : goal.returns-in_err-table-clause-left
 returns-in_err-table-clause-left g c =
-    leaves_failed g.S.RowSource c.args.source.now c.args.pool.now c.take_tableau.new.self c.from_residual.result c.from_residual.ensures.0 c.take_tableau.ensures.forms
+    leaves_failed g.S.FormSource c.args.source.now c.args.pool.now c.take_tableau.new.self c.from_residual.result c.from_residual.ensures.0
+    c.take_tableau.ensures.forms
 
 pub relax_with-requires-clause-in_step : goal.relax_with-requires-clause-in_step
 relax_with-requires-clause-in_step g c =
-    subst (λ (forms : List Form). AreInStep g.S.RowSource c.args.source.now forms) (sym c.take_tableau.ensures.forms) c.requires.in_step
+    subst (λ (forms : List Form). AreInStep g.S.FormSource c.args.source.now forms) (sym c.take_tableau.ensures.forms) c.requires.in_step
 
 pub relax_with-requires-clause-ranges : goal.relax_with-requires-clause-ranges
 relax_with-requires-clause-ranges g c = c.requires.ranges
@@ -61,7 +62,7 @@ pub returns-clause-relaxed : goal.returns-clause-relaxed
 returns-clause-relaxed g c =
     let new = c.relax_with.new in
     let stands = c.in_ok-table.ensures c.args.pool.now c.take_tableau.ensures.kept in
-    subst (λ (top : ℕ). IfOk c.relax_with.result (IsRelaxation (g.S.RowSource.accepted c.args.source.now) top c.args.costs.now new.pool new.point))
+    subst (λ (top : ℕ). IfOk c.relax_with.result (IsRelaxation (g.S.FormSource.accepted c.args.source.now) top c.args.costs.now new.pool new.point))
     stands.over.is_held.same_top c.relax_with.ensures.relaxed
 
 pub returns-clause-places : goal.returns-clause-places
@@ -69,5 +70,5 @@ returns-clause-places g c = c.relax_with.ensures.places
 
 pub returns-clause-left : goal.returns-clause-left
 returns-clause-left g c =
-    subst (λ (forms : List Form). Leaves g.S.RowSource (OnOk c.relax_with.result) c.args.source.now c.relax_with.new.source forms c.relax_with.new.pool)
+    subst (λ (forms : List Form). Leaves g.S.FormSource (OnOk c.relax_with.result) c.args.source.now c.relax_with.new.source forms c.relax_with.new.pool)
     c.take_tableau.ensures.forms c.relax_with.ensures.left

@@ -2,8 +2,8 @@ use Rattle.std.proofs.Common.{◌≡◌, ℕ, ◌<◌, ◌∙◌, refl, sym, ap,
 use Rattle.std.specs.Prelude.{All}
 use Rattle.std.proofs.lemmas.Result.{err_from_is_err_and}
 use Rattle.design_problem.specs.Forms.{Form}
-use Rattle.design_problem.specs.declared.form.CostBox.{CostBox}
-use Rattle.form_search.specs.declared.table.Least.TheVariants.{Point as AtPoint, Refuted, Wide}
+use Rattle.design_problem.specs.declared.boxes.CostBox.{CostBox}
+use Rattle.form_search.specs.declared.held_tableau.Least.TheVariants.{Point as AtPoint, Refuted, Wide}
 use Rattle.fraction_table.specs.Tableaus.{FitsBox}
 use Rattle.form_search.specs.Tables.{StandsAt}
 use Rattle.form_search.proofs.Relaxing.{fit_box, round_told}
@@ -19,7 +19,7 @@ returns-in-Point-clause-round g c =
     let said : c.least.result ≡ Ok AtPoint = cc in
     let stands = subst (λ (box : CostBox). StandsAt top box old table) c.requires.stands.over.costs
     (subst (λ (forms : List Form). StandsAt top c.args.table.now.tableau.costs forms table) c.as_slice.ensures (c.least.ensures.stands said)) in
-    round_told (g.S.RowSource.accepted c.args.source.now) top c.args.costs.now old c.ask_least.new.pool
+    round_told (g.S.FormSource.accepted c.args.source.now) top c.args.costs.now old c.ask_least.new.pool
     c.ask_least.ensures.left.grows.more c.least.new.point table c.ask_least.result c.ask_least.ensures.left.grows.same
     stands (c.ask_least.ensures.relaxed top) c.ask_least.ensures.more
 
@@ -37,8 +37,8 @@ least-requires-clause-fits g c =
     let pool = c.args.pool.now in
     subst (λ (forms : List Form). All (FitsBox c.args.table.now.tableau.costs) forms) (sym c.as_slice.ensures)
     (subst (λ (box : CostBox). All (FitsBox box) pool) (sym c.requires.stands.over.costs)
-    (fit_box (g.S.RowSource.count source) (g.S.RowSource.accepted source) costs pool c.requires.ranges
-    (λ k d k_in. g.met.S.RowSource.true_forms_hold source _ (c.requires.in_step.true_forms k d k_in))))
+    (fit_box (g.S.FormSource.count source) (g.S.FormSource.accepted source) costs pool c.requires.ranges
+    (λ k d k_in. g.met.S.FormSource.true_forms_hold source _ (c.requires.in_step.true_forms k d k_in))))
 
 pub least-requires-clause-some : goal.least-requires-clause-some
 least-requires-clause-some g c =
@@ -56,7 +56,8 @@ pub returns-in_err-least-clause-places : goal.returns-in_err-least-clause-places
 returns-in_err-least-clause-places g c = c.least.ensures.places
 
 pub returns-in_err-least-clause-left : goal.returns-in_err-least-clause-left
-returns-in_err-least-clause-left g c = leaves_failed g.S.RowSource c.args.source.now c.args.pool.now c.args.pool.now c.from_residual.result c.from_residual.ensures.0 refl
+returns-in_err-least-clause-left g c = leaves_failed g.S.FormSource c.args.source.now c.args.pool.now c.args.pool.now c.from_residual.result
+    c.from_residual.ensures.0 refl
 
 pub ask_least-requires-clause-in_step : goal.ask_least-requires-clause-in_step
 ask_least-requires-clause-in_step g c = c.requires.in_step
@@ -92,7 +93,7 @@ pub returns-in-Refuted-clause-places : goal.returns-in-Refuted-clause-places
 returns-in-Refuted-clause-places g c = c.least.ensures.places
 
 pub returns-in-Refuted-clause-left : goal.returns-in-Refuted-clause-left
-returns-in-Refuted-clause-left g c = leaves_none g.S.RowSource c.args.source.now c.args.pool.now c.requires.in_step.lists
+returns-in-Refuted-clause-left g c = leaves_none g.S.FormSource c.args.source.now c.args.pool.now c.requires.in_step.lists
 
 pub returns-in-Wide-clause-round : goal.returns-in-Wide-clause-round
 returns-in-Wide-clause-round g c = record {
@@ -106,4 +107,4 @@ pub returns-in-Wide-clause-places : goal.returns-in-Wide-clause-places
 returns-in-Wide-clause-places g c = c.least.ensures.places
 
 pub returns-in-Wide-clause-left : goal.returns-in-Wide-clause-left
-returns-in-Wide-clause-left g c = leaves_none g.S.RowSource c.args.source.now c.args.pool.now c.requires.in_step.lists
+returns-in-Wide-clause-left g c = leaves_none g.S.FormSource c.args.source.now c.args.pool.now c.requires.in_step.lists

@@ -36,7 +36,7 @@ keep_tableau-requires g c =
 
 pub returns-in-Ok-clause-relaxed : goal.returns-in-Ok-clause-relaxed
 returns-in-Ok-clause-relaxed g c =
-    subst (λ (forms : List Form). IsRelaxation (g.S.RowSource.accepted c.args.source.now) c.args.table.tableau.top c.args.costs.now forms
+    subst (λ (forms : List Form). IsRelaxation (g.S.FormSource.accepted c.args.source.now) c.args.table.tableau.top c.args.costs.now forms
     c.relax_by.new.point c.in-Ok.relaxed) (sym c.keep_tableau.ensures) c.in-Ok.ensures.relaxed.relaxation
 
 pub returns-in-Ok-clause-places : goal.returns-in-Ok-clause-places
@@ -44,5 +44,5 @@ returns-in-Ok-clause-places g c = c.relax_by.ensures.places
 
 pub returns-in-Ok-clause-left : goal.returns-in-Ok-clause-left
 returns-in-Ok-clause-left g c =
-    subst (λ (forms : List Form). Leaves g.S.RowSource (λ P. P) c.args.source.now c.relax_by.new.source c.args.pool.now forms)
+    subst (λ (forms : List Form). Leaves g.S.FormSource (λ P. P) c.args.source.now c.relax_by.new.source c.args.pool.now forms)
     (sym c.keep_tableau.ensures) c.in-Ok.ensures.left

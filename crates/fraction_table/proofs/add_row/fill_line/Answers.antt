@@ -1,6 +1,6 @@
 -- A line that is made in order is one of zeros again first.
 use Rattle.std.proofs.Common.{◌∙◌, length}
-use Rattle.fraction_rows.proofs.BlankRows.{blank_long, cleared_is}
+use Rattle.fraction_lines.proofs.BlankLines.{blank_long, cleared_is}
 use Rattle.fraction_table.proofs.add_row.fill_line.Goals as goal
 
 pub fill_in_order-requires-clause-blank : goal.fill_in_order-requires-clause-blank

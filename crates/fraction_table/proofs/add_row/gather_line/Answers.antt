@@ -8,7 +8,7 @@ sum_lines-requires-clause-lines c =
     let started = started_line c.args.top c.args.costs.now c.args.row.now.form c.args.row.now.line c.set_constant.new.self
     c.start_at.result c.requires.row.blank c.start_at.ensures.start c.start_at.ensures.number c.set_constant.ensures in
     record {
-      rows = rw started.long c.requires.lines.rows;
+      fit = rw started.long c.requires.lines.fit;
       many = omega (arith, c.requires.lines.many, c.requires.row.fits.count);
     }
 
@@ -25,7 +25,7 @@ sum_lines-requires-clause-numbers c =
 
 pub returns-clause-line : goal.returns-clause-line
 returns-clause-line c =
-    gathered_line {X = Unit {0}} c.sum_lines.result c.args.top c.args.costs.now c.args.row.now.form c.args.lines.now c.set_constant.new.self c.sum_lines.new.row
+    gathered_line {X = Unit {0}} c.sum_lines.result c.args.top c.args.costs.now c.args.row.now.form c.args.lines.now c.set_constant.new.self c.sum_lines.new.sum
     (started_line c.args.top c.args.costs.now c.args.row.now.form c.args.row.now.line c.set_constant.new.self c.start_at.result
     c.requires.row.blank c.start_at.ensures.start c.start_at.ensures.number c.set_constant.ensures)
     c.sum_lines.ensures.sums c.sum_lines.ensures.numbers c.sum_lines.ensures.width

@@ -3,8 +3,8 @@ use Rattle.std.proofs.Common.{◌<◌, ◌^◌, ◌∙◌, ap, sym, subst, nat_a
 use Rattle.std.specs.Prelude.{ℤ, pos}
 use Rattle.std.proofs.lemmas.Int.{fits_signed_from_abs, to_z-of_z}
 use Rattle.whole_numbers.specs.Fractions.{whole}
-use Rattle.fraction_rows.specs.TableRows.{IsTableNumber}
-use Rattle.fraction_rows.proofs.SmallNumbers.{whole_number}
+use Rattle.fraction_lines.specs.TableLines.{IsTableNumber}
+use Rattle.fraction_lines.proofs.SmallNumbers.{whole_number}
 use Rattle.fraction_table.proofs.add_row.start_at.Goals as goal
 
 pub returns-then-place-eq0-clause-number : goal.returns-then-place-eq0-clause-number

@@ -4,10 +4,10 @@ use Rattle.std.proofs.lemmas.Result.{err_from_is_err_and}
 use Rattle.whole_numbers.specs.Fractions.{Fraction, order, times}
 use Rattle.wide_fraction.specs.Widths.{IsWithin}
 use Rattle.design_problem.specs.Basis.{entry}
-use Rattle.fraction_rows.specs.Entries.{IsPassing}
-use Rattle.fraction_rows.specs.TableRows.{nothing}
-use Rattle.fraction_rows.proofs.ZeroFractions.{lowest_zero, nothing_times}
-use Rattle.fraction_rows.proofs.RowLaws.{number_at}
+use Rattle.fraction_lines.specs.Entries.{IsPassing}
+use Rattle.fraction_lines.specs.TableLines.{nothing}
+use Rattle.fraction_lines.proofs.ZeroFractions.{lowest_zero, nothing_times}
+use Rattle.fraction_lines.proofs.TableLineLaws.{number_at}
 use Rattle.fraction_table.proofs.choice.entry_order.Goals as goal
 
 pub mul-requires-clause-left_within : goal.mul-requires-clause-left_within

@@ -3,8 +3,8 @@ use Rattle.std.proofs.Common.{suc, sym, subst}
 use Rattle.cost_base.specs.declared.StepName.TheVariants.{Div}
 use Rattle.whole_numbers.specs.Fractions.{Fraction}
 use Rattle.wide_fraction.specs.Widths.{IsWithin}
-use Rattle.fraction_rows.proofs.NamedSteps.{named_passes}
-use Rattle.fraction_rows.proofs.RowLaws.{number_at}
+use Rattle.fraction_lines.proofs.NamedSteps.{named_passes}
+use Rattle.fraction_lines.proofs.TableLineLaws.{number_at}
 use Rattle.fraction_table.proofs.choice.entry_quotient.Goals as goal
 
 pub div-requires-clause-left_within : goal.div-requires-clause-left_within

@@ -8,7 +8,7 @@ use borrow.Author.Count.{below_more}
 use Rattle.design_problem.specs.declared.form.Term.{Term}
 use Rattle.design_problem.specs.Forms.{terms_from, terms_of, no_term}
 use Rattle.design_problem.proofs.TermLaws.{each_term}
-use Rattle.fraction_rows.proofs.TermSums.{term_in}
+use Rattle.fraction_lines.proofs.TermSums.{term_in}
 use Rattle.fraction_table.proofs.fit.are_small.Goals as goal
 
 each_coefficient : (P : ℤ → Type 0) (first : ℕ) (cs : List ℤ) → P (pos 0) → All (λ (t : Term). P t.coefficient) (terms_from first cs) → All P cs

@@ -1,7 +1,7 @@
 -- The difference that is too wide is told.
 use Rattle.std.proofs.Common.{sym, subst}
 use Rattle.std.proofs.lemmas.Result.{err_from_is_err_and}
-use Rattle.fraction_rows.specs.Entries.{IsPassing}
+use Rattle.fraction_lines.specs.Entries.{IsPassing}
 use Rattle.fraction_table.proofs.moves.lower_constant.Goals as goal
 
 pub returns-in_err-constant-clause-passes : goal.returns-in_err-constant-clause-passes

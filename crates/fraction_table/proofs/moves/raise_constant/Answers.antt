@@ -5,11 +5,11 @@ use Rattle.cost_base.specs.declared.StepName.TheVariants.{Add, Mul}
 use Rattle.whole_numbers.specs.Fractions.{Fraction, times}
 use Rattle.wide_fraction.specs.declared.steps.Wide.{Wide}
 use Rattle.design_problem.specs.Basis.{entry}
-use Rattle.fraction_rows.specs.TableRows.{IsTableNumber}
+use Rattle.fraction_lines.specs.TableLines.{IsTableNumber}
 use Rattle.fraction_table.specs.Moves.{IsRaiseStep}
 use Rattle.fraction_table.specs.Moves.IsRaiseStep.{product, sum}
-use Rattle.fraction_rows.proofs.RowLaws.{number_at}
-use Rattle.fraction_rows.proofs.NamedSteps.{named_passes}
+use Rattle.fraction_lines.proofs.TableLineLaws.{number_at}
+use Rattle.fraction_lines.proofs.NamedSteps.{named_passes}
 use Rattle.fraction_table.proofs.MoveLines.{none_raised, raised_is, raised_numbers}
 use Rattle.fraction_table.proofs.moves.raise_constant.Goals as goal
 

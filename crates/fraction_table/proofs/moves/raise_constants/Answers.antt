@@ -5,10 +5,10 @@ use Rattle.std.proofs.lemmas.List.Edits.{map_over_more}
 use Rattle.std.proofs.lemmas.List.{get_or_default}
 use Rattle.std.proofs.lemmas.Result.{err_from_is_err_and}
 use Rattle.whole_numbers.specs.Fractions.{Fraction}
-use Rattle.fraction_rows.specs.TableRows.{IsWideStep}
-use Rattle.fraction_rows.specs.Turns.{AreTableRows}
+use Rattle.fraction_lines.specs.TableLines.{IsWideStep}
+use Rattle.fraction_lines.specs.Turns.{AreTableLines}
 use Rattle.fraction_table.specs.Moves.{IsRaiseStep, raised_line}
-use Rattle.fraction_rows.proofs.RowLaws.{rows_at, rows_set, later_same}
+use Rattle.fraction_lines.proofs.TableLineLaws.{lines_at, lines_set, later_same}
 use Rattle.fraction_table.proofs.moves.raise_constants.Goals.{After-raise_constant}
 use Rattle.fraction_table.proofs.moves.raise_constants.Goals as goal
 
@@ -17,7 +17,7 @@ raise_constant-requires c =
     let i = c.loop-line.line-index in
     let d = c.line-item.result in
     let same = later_same (raised_line c.args.column c.args.fall) c.args.lines.now c.loop-line.lines i d c.loop-line.invariant.raised in
-    let here = rows_at c.args.top c.requires.lines.0 c.args.lines.now i d c.requires.lines.2 c.loop-line-test.true in
+    let here = lines_at c.args.top c.requires.lines.0 c.args.lines.now i d c.requires.lines.2 c.loop-line-test.true in
     rw same
     (record {
       column = omega (arith, here.0, c.requires.lines.1);
@@ -26,14 +26,14 @@ raise_constant-requires c =
     })
 
 -- the lines stay numbers within the top
-numbers_kept : (c : After-raise_constant) → (count : ℕ) → AreTableRows c.args.top count c.args.lines.now →
-    AreTableRows c.args.top count (slice_set c.loop-line.lines c.loop-line.line-index c.raise_constant.new.line)
+numbers_kept : (c : After-raise_constant) → (count : ℕ) → AreTableLines c.args.top count c.args.lines.now →
+    AreTableLines c.args.top count (slice_set c.loop-line.lines c.loop-line.line-index c.raise_constant.new.line)
 numbers_kept c count rows =
     let i = c.loop-line.line-index in
     let d = c.line-item.result in
     let same = later_same (raised_line c.args.column c.args.fall) c.args.lines.now c.loop-line.lines i d c.loop-line.invariant.raised in
-    let here = rows_at c.args.top count c.args.lines.now i d rows c.loop-line-test.true in
-    rows_set c.args.top count c.loop-line.lines i c.raise_constant.new.line (c.loop-line.invariant.numbers count rows)
+    let here = lines_at c.args.top count c.args.lines.now i d rows c.loop-line-test.true in
+    lines_set c.args.top count c.loop-line.lines i c.raise_constant.new.line (c.loop-line.invariant.numbers count rows)
     (c.raise_constant.ensures.width ∙ ap length same ∙ here.0)
     c.raise_constant.ensures.numbers
 

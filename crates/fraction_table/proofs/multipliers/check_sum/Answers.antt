@@ -7,7 +7,7 @@ use Rattle.cost_base.specs.declared.StepName.TheVariants.{Scale}
 use Rattle.whole_numbers.specs.Fractions.{Fraction, whole}
 use Rattle.wide_fraction.specs.declared.steps.Wide.{Wide}
 use Rattle.fraction_table.proofs.MultiplierSteps.{natural_high, read_back, scale_wide, sum_small, sum_whole}
-use Rattle.fraction_rows.proofs.SmallNumbers.{top_small}
+use Rattle.fraction_lines.proofs.SmallNumbers.{top_small}
 use Rattle.fraction_table.proofs.multipliers.check_sum.Goals.{After-numerator}
 use Rattle.fraction_table.proofs.multipliers.check_sum.Goals as goal
 

@@ -4,7 +4,7 @@ use Rattle.std.specs.Prelude.{ℤ, pos, ◌<ℤ◌, slice_index_or}
 use Rattle.std.proofs.lemmas.Int.{ints}
 use Rattle.std.proofs.lemmas.Result.{err_from_is_err_and}
 use Rattle.fraction_table.proofs.MultiplierSteps.{denominator_within, multiple_next, multiple_wide, part_number, positive_denominator, positive_multiple, read_back}
-use Rattle.fraction_rows.proofs.SmallNumbers.{top_small, top_some}
+use Rattle.fraction_lines.proofs.SmallNumbers.{top_small, top_some}
 use Rattle.fraction_table.proofs.multipliers.common_multiple.Goals as goal
 
 pub loop-index-init : goal.loop-index-init

@@ -8,9 +8,9 @@ use Rattle.cost_base.specs.declared.StepName.TheVariants.{Mul}
 use Rattle.whole_numbers.specs.Fractions.{Fraction, times, whole}
 use Rattle.wide_fraction.specs.declared.steps.Wide.{Wide}
 use Rattle.fraction_table.specs.Multipliers.{fractions}
-use Rattle.fraction_rows.specs.Entries.{IsPassing}
+use Rattle.fraction_lines.specs.Entries.{IsPassing}
 use Rattle.fraction_table.proofs.MultiplierSteps.{all_more, made_next, made_wide, part_number, part_put, read_back, wide_multiplier}
-use Rattle.fraction_rows.proofs.SmallNumbers.{top_small}
+use Rattle.fraction_lines.proofs.SmallNumbers.{top_small}
 use Rattle.fraction_table.proofs.multipliers.made_parts.Goals as goal
 
 pub mul-requires-clause-left_within : goal.mul-requires-clause-left_within

@@ -4,9 +4,9 @@ use Rattle.std.specs.Prelude.{slice_index_or}
 use Rattle.std.proofs.lemmas.Result.{err_from_is_err_and}
 use Rattle.wide_fraction.specs.Widths.{IsWithin}
 use Rattle.whole_numbers.specs.Fractions.{whole}
-use Rattle.fraction_rows.specs.Entries.{IsPassing}
+use Rattle.fraction_lines.specs.Entries.{IsPassing}
 use Rattle.fraction_table.proofs.MultiplierSteps.{read_natural, sum_next, sum_wide}
-use Rattle.fraction_rows.proofs.SmallNumbers.{top_small, top_some}
+use Rattle.fraction_lines.proofs.SmallNumbers.{top_small, top_some}
 use Rattle.fraction_table.proofs.multipliers.sum_of_parts.Goals as goal
 
 pub loop-index-init : goal.loop-index-init

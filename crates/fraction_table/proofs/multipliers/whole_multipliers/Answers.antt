@@ -4,7 +4,7 @@ use Rattle.std.specs.Prelude.{sum_by}
 use Rattle.std.specs.List.Sorted.{IsPermutation}
 use Rattle.std.proofs.lemmas.List.Sorted.{IsNonDecreasingBy-from_sort_by_key, sum_by-IsPermutation}
 use Rattle.std.proofs.lemmas.Result.{err_from_is_err_and}
-use Rattle.fraction_table.specs.Multipliers.{IsTallyStep, fractions, whole_parts, wholes}
+use Rattle.fraction_table.specs.Multipliers.{IsTallyStep, fractions, whole_multipliers, wholes}
 use Rattle.fraction_table.proofs.MultiplierSteps.{wide_multiplier}
 use Rattle.fraction_table.proofs.WholeParts.{parts_numbers, parts_positive, parts_rise, parts_sum, tally_step}
 use Rattle.fraction_table.proofs.multipliers.whole_multipliers.Goals as goal
@@ -57,7 +57,7 @@ from_items-requires-clause-positive c =
 
 pub returns-clause-made : goal.returns-clause-made
 returns-clause-made c =
-    subst (IsPermutation (whole_parts c.args.parts.now)) (sym c.from_items.ensures)
+    subst (IsPermutation (whole_multipliers c.args.parts.now)) (sym c.from_items.ensures)
     (subst (λ (ps : List (ℕ × ℕ)). IsPermutation ps c.sort_unstable_by_key.new.self.items) c.in_ok-made.ensures.exact
     c.sort_unstable_by_key.ensures.permutation)
 

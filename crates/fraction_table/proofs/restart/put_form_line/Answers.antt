@@ -6,7 +6,7 @@ use Rattle.whole_numbers.specs.Fractions.{whole}
 use Rattle.design_problem.specs.declared.form.Term.{Term}
 use Rattle.design_problem.specs.Forms.{terms_of, value_for_costs, no_term}
 use Rattle.design_problem.proofs.TermLaws.{each_term, small_read}
-use Rattle.fraction_rows.proofs.TermSums.{term_in}
+use Rattle.fraction_lines.proofs.TermSums.{term_in}
 use Rattle.fraction_table.proofs.Restarts.{form_numbers, put_all, put_first, put_next}
 use Rattle.fraction_table.proofs.Shifts.{kept_number}
 use Rattle.fraction_table.proofs.restart.put_form_line.Goals as goal

@@ -1,10 +1,10 @@
--- The row of zeros gets its constant and its entry.
+-- The line of zeros gets its constant and its entry.
 use Rattle.std.proofs.Common.{◌≡◌, suc, ◌∙◌, ap, ◌∷◌, length, map, arith}
 use Rattle.cost_base.specs.Lists.{numbers_from}
 use Rattle.whole_numbers.specs.Fractions.{whole}
 use Rattle.design_problem.specs.Basis.{entry}
-use Rattle.fraction_rows.specs.TableRows.{nothing}
-use Rattle.fraction_rows.proofs.BlankRows.{blank_entry, blank_size, cleared_set}
+use Rattle.fraction_lines.specs.TableLines.{nothing}
+use Rattle.fraction_lines.proofs.BlankLines.{blank_entry, blank_size, cleared_set}
 use Rattle.fraction_table.proofs.Shifts.{kept_number}
 use Rattle.fraction_table.proofs.StartLines.{entry_set, unit_line_numbers}
 use Rattle.fraction_table.proofs.start.put_unit_line.Goals as goal

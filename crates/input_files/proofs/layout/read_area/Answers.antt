@@ -8,10 +8,10 @@ use Rattle.input_files.proofs.Layouts.{asked_stops, files_stop, base_stops, area
 use Rattle.input_files.proofs.Problems.{routers_of_vector}
 use Rattle.input_files.proofs.layout.read_area.Goals as goal
 
-pub returns-in_err-requests : goal.returns-in_err-requests
-returns-in_err-requests g c =
+pub returns-in_err-request_file : goal.returns-in_err-request_file
+returns-in_err-request_file g c =
     let p = err_from_is_err_and c.from_residual.result c.from_residual.ensures.1 in
-    rw (p.1, p.2) (asked_stops (g.S.Shelf.gave c.args.shelf.now c.read_request.new.shelf) (files_named c.args.words) _ c.in_err-requests.ensures)
+    rw (p.1, p.2) (asked_stops (g.S.Shelf.gave c.args.shelf.now c.read_request.new.shelf) (files_named c.args.words) _ c.in_err-request_file.ensures)
 
 pub returns-in_err-configs : goal.returns-in_err-configs
 returns-in_err-configs g c =
@@ -20,7 +20,7 @@ returns-in_err-configs g c =
     let d = c.read_configs.new.shelf in
     let p = err_from_is_err_and c.from_residual-in_err-configs.result c.from_residual-in_err-configs.ensures.1 in
     rw (p.1, p.2) (files_stop (g.S.Shelf.gave a b) (g.S.Shelf.gave b d) (g.S.Shelf.gave a d) (files_named c.args.words)
-    c.in_ok-requests.requests _ (g.met.S.Shelf.gave_more a b d) c.in_ok-requests.ensures c.in_err-configs.ensures)
+    c.in_ok-request_file.request_file _ (g.met.S.Shelf.gave_more a b d) c.in_ok-request_file.ensures c.in_err-configs.ensures)
 
 pub returns-in_err-lsdb : goal.returns-in_err-lsdb
 returns-in_err-lsdb g c =
@@ -31,9 +31,9 @@ returns-in_err-lsdb g c =
     let routers = c.deref.result.now in
     let p = err_from_is_err_and c.from_residual-in_err-lsdb.result c.from_residual-in_err-lsdb.ensures.1 in
     rw (p.1, p.2) (base_stops (g.S.Shelf.gave a b) (g.S.Shelf.gave b d) (g.S.Shelf.gave a d) names
-    c.in_ok-requests.requests routers _ (g.met.S.Shelf.gave_more a b d) c.in_ok-requests.ensures
+    c.in_ok-request_file.request_file routers _ (g.met.S.Shelf.gave_more a b d) c.in_ok-request_file.ensures
     (routers_of_vector (g.S.Shelf.gave b d) names c.in_ok-configs.configs routers c.deref.ensures.value c.in_ok-configs.ensures)
-    (subst (λ (x : Asked). StopsAs (topology_read names x.area routers) [] c.in_err-lsdb.field-0.0) c.requests.view_is c.in_err-lsdb.ensures))
+    (subst (λ (x : Asked). StopsAs (topology_read names x.area routers) [] c.in_err-lsdb.field-0.0) c.request_file.view_is c.in_err-lsdb.ensures))
 
 pub returns : goal.returns
 returns g c =
@@ -43,9 +43,9 @@ returns g c =
     let names = files_named c.args.words in
     let routers = c.deref.result.now in
     area_is (g.S.Shelf.gave a b) (g.S.Shelf.gave b d) (g.S.Shelf.gave a d) names _
-    c.in_ok-requests.requests routers c.in_ok-lsdb.lsdb (g.met.S.Shelf.gave_more a b d)
-    (record { requests = refl; configs = sym c.deref.ensures.value; lsdb = refl })
-    c.in_ok-requests.ensures
+    c.in_ok-request_file.request_file routers c.in_ok-lsdb.lsdb (g.met.S.Shelf.gave_more a b d)
+    (record { request_file = refl; configs = sym c.deref.ensures.value; lsdb = refl })
+    c.in_ok-request_file.ensures
     (routers_of_vector (g.S.Shelf.gave b d) names c.in_ok-configs.configs routers c.deref.ensures.value c.in_ok-configs.ensures)
     (subst (λ (x : Asked). IsReadAndMade (topology_read names x.area routers) [] (λ made read. made ≡ read) c.in_ok-lsdb.lsdb)
-    c.requests.view_is c.in_ok-lsdb.ensures)
+    c.request_file.view_is c.in_ok-lsdb.ensures)

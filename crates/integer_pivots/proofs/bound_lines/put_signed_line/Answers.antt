@@ -79,7 +79,8 @@ loop-column-preserved c =
             kept k behind ∙ f.rest k (omega (arith, behind)) (omega (arith, k_in, next.ensures.within, f.count, ap length c.as_slice-numbers.ensures))
             ∙ sym (ap (λ (z : ℤ). read c.args.sign *ℤ z) (none k behind k_in) ∙ lib.IntN.*ℤ-zero (read c.args.sign))
       ];
-      rest = λ k from k_in. kept k (omega (arith, from, next.ensures.from)) ∙ f.rest k (omega (arith, from, next.ensures.from)) (omega (arith, k_in, long, f.count));
+      rest = λ k from k_in. kept k (omega (arith, from, next.ensures.from)) ∙
+          f.rest k (omega (arith, from, next.ensures.from)) (omega (arith, k_in, long, f.count));
       denominator = f.denominator;
       constant = f.constant;
       reach = f.reach;

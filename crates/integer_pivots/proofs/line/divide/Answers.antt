@@ -13,7 +13,8 @@ inside : (c : After-as_slice-in-loop-column) → c.loop-column.column < length c
 inside c = omega (arith, ap length c.as_slice.ensures, c.loop-column-test.true, c.loop-column.invariant.count)
 
 -- the number at the counter is as before
-here : (c : After-as_slice-in-loop-column) → number_at c.as_slice-in-loop-column.result.now c.loop-column.column ≡ number_at c.args.numbers.now c.loop-column.column
+here : (c : After-as_slice-in-loop-column) → number_at c.as_slice-in-loop-column.result.now c.loop-column.column ≡
+    number_at c.args.numbers.now c.loop-column.column
 here c =
     ap (λ (xs : List ℤ). number_at xs c.loop-column.column) c.as_slice-in-loop-column.ensures
     ∙ c.loop-column.invariant.rest c.loop-column.column (omega arith)

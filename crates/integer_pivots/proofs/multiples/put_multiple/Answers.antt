@@ -25,7 +25,8 @@ module _ (c : In-loop-column) where
 
 -- one more multiple fits, and the sums with it are those up to the next place
 module _ (c : After-as_slice) where
-  step : FitsSigned w64 (read (number_at c.as_slice.result.now c.loop-column.column) +ℤ read (read c.args.factor *ℤ read (number_at c.args.numbers.now c.loop-column.column)))
+  step : FitsSigned w64 (read (number_at c.as_slice.result.now c.loop-column.column) +ℤ read
+      (read c.args.factor *ℤ read (number_at c.args.numbers.now c.loop-column.column)))
       × (slice_set c.as_slice.result.now c.loop-column.column (read (read (number_at c.as_slice.result.now c.loop-column.column)
       +ℤ read (read c.args.factor *ℤ read (number_at c.args.numbers.now c.loop-column.column))))
       ≡ partly (c.loop-column.column + 1) c.args.sums.now (read c.args.factor) c.args.numbers.now)
@@ -71,8 +72,10 @@ loop-column-preserved c =
     let next = c.next-column-in-loop-column in
     let now = c.as_slice.result.now in
     c.set.ensures
-    ∙ ap (λ (xs : List ℤ). slice_set xs i (read (read (number_at now i) +ℤ read (read c.args.factor *ℤ read (number_at c.as_slice-line.result.now i))))) (sym c.as_slice.ensures)
-    ∙ ap (λ (z : ℤ). slice_set now i (read (read (number_at now i) +ℤ read (read c.args.factor *ℤ read z)))) (here (goal.at.loop-column-preserved c).In-loop-column)
+    ∙ ap (λ (xs : List ℤ). slice_set xs i (read (read (number_at now i) +ℤ read (read c.args.factor *ℤ read (number_at c.as_slice-line.result.now i)))))
+    (sym c.as_slice.ensures)
+    ∙ ap (λ (z : ℤ). slice_set now i (read (read (number_at now i) +ℤ read (read c.args.factor *ℤ read z))))
+    (here (goal.at.loop-column-preserved c).In-loop-column)
     ∙ (step (goal.at.loop-column-preserved c).After-as_slice).1
     ∙ sym (partly_passed (i + 1) (next.result - (i + 1)) c.args.sums.now (read c.args.factor) c.args.numbers.now
     (λ k from before. passed k from (omega (arith, before, next.ensures.from))))

@@ -14,11 +14,11 @@ use Rattle.least_bound.proofs.answering.impossible.Goals as goal
 
 -- the sheet of a closed tree
 refuted_sheet : (p : DesignProblem) (top nodes : ℕ) (pool : Pooled) (old : List Row) (t : CapTree) (rows : List Row)
-    (new_proof new_unfinished : Option CapTree) → IsProblem p → FitsGraph p.graph → IsRowPool p pool → old ≡ pool.rows →
-    IsRefuted p top nodes pool t → ArePrinted old (Some t) None rows new_proof new_unfinished →
-    AreOnSheet p pool (Some t) None rows new_proof new_unfinished
-refuted_sheet p top nodes pool old t rows new_proof new_unfinished problem graph is_pool same refuted =
-    on_sheet p pool old (Some t) None rows new_proof new_unfinished problem graph is_pool same (names_rows p top t.cap pool old t.tree same refuted.tree) tt
+    (new_proof new_undecided : Option CapTree) → IsProblem p → FitsGraph p.graph → IsRowPool p pool → old ≡ pool.rows →
+    IsRefuted p top nodes pool t → ArePrinted old (Some t) None rows new_proof new_undecided →
+    AreOnSheet p pool (Some t) None rows new_proof new_undecided
+refuted_sheet p top nodes pool old t rows new_proof new_undecided problem graph is_pool same refuted =
+    on_sheet p pool old (Some t) None rows new_proof new_undecided problem graph is_pool same (names_rows p top t.cap pool old t.tree same refuted.tree) tt
 
 pub printed_both-requires-clause-proof : goal.printed_both-requires-clause-proof
 printed_both-requires-clause-proof c =
@@ -32,10 +32,10 @@ invariant_of-result c =
     let printed = c.in_ok-printed.printed in
     let refuted = c.requires.refuted.3 in
     let are = refuted_sheet p c.requires.refuted.0 c.requires.refuted.1 c.args.pool c.into_rows.result.items t
-    printed.rows printed.proof printed.unfinished c.keeps_conditions.ensures.problem
-    c.keeps_conditions.ensures.graph c.requires.pool c.into_rows.ensures refuted c.in_ok-printed.ensures in
+    printed.rows printed.proof printed.undecided c.keeps_problem_on_graph.ensures.problem
+    c.keeps_problem_on_graph.ensures.graph c.requires.pool c.into_rows.ensures refuted c.in_ok-printed.ensures in
     impossible_kept p c.requires.refuted.0 c.requires.refuted.1 c.args.pool (sheet_of (Some t) None printed.rows) t
-    printed.proof printed.unfinished are.sheet are.proof_is are.unfinished_is c.requires.cap
+    printed.proof printed.undecided are.sheet are.proof_is are.undecided_is c.requires.cap
     (omega arith) c.requires.refuted.2 refuted
 
 pub returns-clause-answered : goal.returns-clause-answered
@@ -44,10 +44,10 @@ returns-clause-answered c = λ top nodes refuted.
     let t : CapTree = record { cap = c.args.cap; tree = c.args.tree } in
     let printed = c.in_ok-printed.printed in
     let are = refuted_sheet p top nodes c.args.pool c.into_rows.result.items t printed.rows printed.proof
-    printed.unfinished c.keeps_conditions.ensures.problem c.keeps_conditions.ensures.graph c.requires.pool
+    printed.undecided c.keeps_problem_on_graph.ensures.problem c.keeps_problem_on_graph.ensures.graph c.requires.pool
     c.into_rows.ensures refuted c.in_ok-printed.ensures in
-    impossible_answered p top nodes c.args.pool (sheet_of (Some t) None printed.rows) t printed.proof printed.unfinished
-    are.sheet are.proof_is are.unfinished_is c.requires.cap refuted are.whole
+    impossible_answered p top nodes c.args.pool (sheet_of (Some t) None printed.rows) t printed.proof printed.undecided
+    are.sheet are.proof_is are.undecided_is c.requires.cap refuted are.whole
 
 pub returns-clause-tells : goal.returns-clause-tells
 returns-clause-tells c =

@@ -17,13 +17,13 @@ use Rattle.least_bound.proofs.answering.optimal.Goals as goal
 
 -- the sheet of the tree that is kept at the cap below the greatest of some costs
 at_least : (p : DesignProblem) (top nodes : ℕ) (pool : Pooled) (old : List Row) (w : List ℕ)
-    (kept lent : Option CapTree) (rows : List Row) (new_proof new_unfinished : Option CapTree) → IsProblem p →
+    (kept lent : Option CapTree) (rows : List Row) (new_proof new_undecided : Option CapTree) → IsProblem p →
     FitsGraph p.graph → IsRowPool p pool → old ≡ pool.rows → lent ≡ kept →
     IsKeptAt p top nodes pool (greatest_cost w) kept →
-    ArePrinted old lent None rows new_proof new_unfinished → AreOnSheet p pool kept None rows new_proof new_unfinished
-at_least p top nodes pool old w kept lent rows new_proof new_unfinished problem graph is_pool same lent_is holds =
+    ArePrinted old lent None rows new_proof new_undecided → AreOnSheet p pool kept None rows new_proof new_undecided
+at_least p top nodes pool old w kept lent rows new_proof new_undecided problem graph is_pool same lent_is holds =
     let k = greatest_cost w in
-    kept_on_sheet p top nodes k pool old kept lent None rows new_proof new_unfinished problem graph is_pool same lent_is
+    kept_on_sheet p top nodes k pool old kept lent None rows new_proof new_undecided problem graph is_pool same lent_is
     (kept_below p top nodes pool k k kept (omega arith) holds) tt
 
 pub printed_both-requires-clause-proof : goal.printed_both-requires-clause-proof
@@ -45,11 +45,11 @@ invariant_of-result c =
     let printed = c.in_ok-printed.printed in
     let lent : option_copied c.as_ref.result ≡ kept = search rules in
     let are = at_least p c.requires.kept.0 c.requires.kept.1 pool c.into_rows.result.items w kept
-    (option_copied c.as_ref.result) printed.rows printed.proof printed.unfinished c.keeps_conditions.ensures.problem
-    c.keeps_conditions.ensures.graph c.requires.pool c.into_rows.ensures lent c.requires.kept.3
+    (option_copied c.as_ref.result) printed.rows printed.proof printed.undecided c.keeps_problem_on_graph.ensures.problem
+    c.keeps_problem_on_graph.ensures.graph c.requires.pool c.into_rows.ensures lent c.requires.kept.3
     c.in_ok-printed.ensures in
     optimal_kept p c.requires.kept.0 c.requires.kept.1 pool (sheet_of kept None printed.rows) w c.in_ok-costs.costs
-    c.floor_without-floor.result kept printed.proof printed.unfinished are.sheet are.proof_is are.unfinished_is
+    c.floor_without-floor.result kept printed.proof printed.undecided are.sheet are.proof_is are.undecided_is
     c.in_ok-costs.ensures c.floor_without-floor.ensures c.requires.kept.2 c.requires.kept.3
 
 pub returns-clause-answered : goal.returns-clause-answered
@@ -61,10 +61,10 @@ returns-clause-answered c = λ top nodes holds.
     let printed = c.in_ok-printed.printed in
     let lent : option_copied c.as_ref.result ≡ kept = search rules in
     let are = at_least p top nodes pool c.into_rows.result.items w kept (option_copied c.as_ref.result) printed.rows
-    printed.proof printed.unfinished c.keeps_conditions.ensures.problem c.keeps_conditions.ensures.graph
+    printed.proof printed.undecided c.keeps_problem_on_graph.ensures.problem c.keeps_problem_on_graph.ensures.graph
     c.requires.pool c.into_rows.ensures lent holds c.in_ok-printed.ensures in
     optimal_answered p top nodes pool (sheet_of kept None printed.rows) w c.in_ok-costs.costs
-    c.floor_without-floor.result kept printed.proof printed.unfinished are.sheet are.proof_is are.unfinished_is
+    c.floor_without-floor.result kept printed.proof printed.undecided are.sheet are.proof_is are.undecided_is
     c.requires.fit c.in_ok-costs.ensures c.floor_without-floor.ensures holds are.whole
 
 pub returns-clause-tells : goal.returns-clause-tells

@@ -10,4 +10,4 @@ printed_costs-requires-clause-counted c = ap length c.as_slice.ensures ∙ fit_c
 pub printed_costs-requires-clause-positive : goal.printed_costs-requires-clause-positive
 printed_costs-requires-clause-positive c =
     subst (λ (ws : List ℕ). All (λ cost. 1 ≤ cost) ws) (sym c.as_slice.ensures)
-    (fit_positive c.args.problem.now c.args.costs.now c.keeps_conditions.ensures.problem c.requires)
+    (fit_positive c.args.problem.now c.args.costs.now c.keeps_problem_on_graph.ensures.problem c.requires)

@@ -1,7 +1,7 @@
 -- The box of a set is a box of costs.
 use Rattle.std.proofs.Common.{length, subst, sym, ◌≤◌}
 use Rattle.std.specs.Prelude.{All}
-use Rattle.design_problem.specs.declared.form.CostBox.{CostBox}
+use Rattle.design_problem.specs.declared.boxes.CostBox.{CostBox}
 use Rattle.design_problem.specs.Problems.{DesignProblem}
 use Rattle.design_problem.specs.Boxes.{IsBox}
 use Rattle.least_change.proofs.InBoxes.{kept_is_box, kept_positive}

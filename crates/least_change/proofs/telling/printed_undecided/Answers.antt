@@ -20,14 +20,14 @@ printed_all-requires c =
 pub returns : goal.returns
 returns c =
     let sheet = c.in_ok-rows.field-0 in
-    let both = c.args.trees.items ++ c.args.stuck ∷ [] in
+    let both = c.args.trees.items ++ c.args.undecided ∷ [] in
     let printed : AreAllPrinted c.args.pool.rows both sheet.rows.items sheet.trees.items =
     subst (λ (rs : List Row). AreAllPrinted rs both sheet.rows.items sheet.trees.items) c.into_rows.ensures
     (subst (λ (ts : List (List Entry)). AreAllPrinted c.into_rows.result.items ts sheet.rows.items sheet.trees.items)
     (c.as_slice.ensures.value ∙ c.in_ok-push.ensures.items) c.in_ok-rows.ensures) in
     let e : sheet.trees.len ≡ length sheet.trees.items = omega (arith, sheet.trees.ok.0) in
     let longer = ap length printed.trees_are ∙ length-map both (with_new_numbers (is_row_named_in both))
-    ∙ length-append c.args.trees.items (c.args.stuck ∷ []) in
+    ∙ length-append c.args.trees.items (c.args.undecided ∷ []) in
     let some : 0 < sheet.trees.len = omega (arith, e, longer) in
     record {
       new_trees = sheet.trees.items;

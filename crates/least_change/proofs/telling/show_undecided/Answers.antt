@@ -4,7 +4,7 @@ use Rattle.least_change.proofs.telling.show_undecided.Goals as goal
 
 pub undecided_evidence-requires-clause-known : goal.undecided_evidence-requires-clause-known
 undecided_evidence-requires-clause-known c =
-    record { most = c.args.standing.most; cores = c.requires.standing.cores; is_most = c.requires.standing.most }
+    record { most = c.args.so_far.most; cores = c.requires.so_far.cores; is_most = c.requires.so_far.most }
 
 pub returns : goal.returns
 returns c =

@@ -19,7 +19,7 @@ undecided_cores-requires-clause-names c =
     let q = c.args.question.now in
     let named = c.in_ok-named.named in
     let told = known_told q c.args.pool c.args.known.sets.items c.args.known.trees.items c.args.known.cover named c.requires.known c.in_ok-named.ensures in
-    undecided_names_rows q c.args.pool c.requires.known.most named c.args.stuck _ c.requires.pool told c.requires.stuck refl
+    undecided_names_rows q c.args.pool c.requires.known.most named c.args.undecided _ c.requires.pool told c.requires.undecided refl
 
 pub undecided_cores-requires-clause-counted : goal.undecided_cores-requires-clause-counted
 undecided_cores-requires-clause-counted c =
@@ -32,6 +32,7 @@ pub returns : goal.returns
 returns c =
     let q = c.args.question.now in
     let named = c.in_ok-named.named in
-    IfOk-weaker c.undecided_cores.result (IsUndecidedPrinted c.args.pool.rows named c.args.stuck) (IsUndecidedEvidenceTold q c.args.stuck)
-    (undecided_evidence_told q c.args.pool c.args.known.sets.items c.args.known.trees.items c.args.known.cover named c.args.stuck c.keeps_conditions.ensures.problem.problem
-    c.keeps_conditions.ensures.present c.requires.pool c.requires.known c.in_ok-named.ensures c.requires.stuck) c.undecided_cores.ensures
+    IfOk-weaker c.undecided_cores.result (IsUndecidedPrinted c.args.pool.rows named c.args.undecided) (IsUndecidedEvidenceTold q c.args.undecided)
+    (undecided_evidence_told q c.args.pool c.args.known.sets.items c.args.known.trees.items c.args.known.cover named c.args.undecided
+    c.keeps_conditions.ensures.problem.problem
+    c.keeps_conditions.ensures.present c.requires.pool c.requires.known c.in_ok-named.ensures c.requires.undecided) c.undecided_cores.ensures

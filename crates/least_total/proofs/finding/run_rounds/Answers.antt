@@ -12,7 +12,7 @@ loop-most-preserved-in-Costs c =
     let found : IsRound p limits.top limits.nodes c.args.cap c.in-Some.most (Costs c.in-Costs.costs) =
     subst (λ (r : Round). IsRound p limits.top limits.nodes c.args.cap c.in-Some.most r) c.in-Costs.is
     c.in_ok-costs.ensures in
-    c.with_costs-standing.ensures.holds p limits.top limits.nodes c.args.cap c.keeps_conditions.ensures.problem c.loop-most.invariant found.0
+    c.with_costs-so_far.ensures.holds p limits.top limits.nodes c.args.cap c.keeps_problem_on_graph.ensures.problem c.loop-most.invariant found.0
 
 pub loop-most-preserved : goal.loop-most-preserved
 loop-most-preserved c =
@@ -21,4 +21,4 @@ loop-most-preserved c =
     let found : IsRound p limits.top limits.nodes c.args.cap c.in-Some.most (Refuted c.in-Refuted.tree) =
     subst (λ (r : Round). IsRound p limits.top limits.nodes c.args.cap c.in-Some.most r) c.in-Refuted.is
     c.in_ok-costs.ensures in
-    c.without-standing.ensures.holds p limits.top limits.nodes c.args.cap c.loop-most.invariant found
+    c.without-so_far.ensures.holds p limits.top limits.nodes c.args.cap c.loop-most.invariant found

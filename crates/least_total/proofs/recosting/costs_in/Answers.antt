@@ -10,7 +10,7 @@ costs_given-requires-clause-counts c =
     let names = c.as_slice.ensures ∙ ap (λ (q : DesignProblem). q.vars) c.problem.view_is in
     let lines = c.lines_in-lines.ensures ∙ ap (λ (a : AnswerParts). lines_in a.costs) c.answer.view_is in
     ap length names ∙ lines_counted c.args.problem.now c.args.answer.now c.requires.optimal.0
-    c.keeps_conditions.ensures.problem c.requires.valid c.requires.optimal.1 ∙ ap length (sym lines)
+    c.keeps_problem_on_graph.ensures.problem c.requires.valid c.requires.optimal.1 ∙ ap length (sym lines)
 
 pub returns : goal.returns
 returns c =
@@ -18,7 +18,7 @@ returns c =
     let names = c.as_slice.ensures ∙ ap (λ (q : DesignProblem). q.vars) c.problem.view_is in
     let lines = c.lines_in-lines.ensures ∙ ap (λ (a : AnswerParts). lines_in a.costs) c.answer.view_is in
     given_are c.args.problem.now c.args.answer.now c.requires.optimal.0 c.from_items.result
-    c.keeps_conditions.ensures.problem c.requires.valid c.requires.optimal.1
+    c.keeps_problem_on_graph.ensures.problem c.requires.valid c.requires.optimal.1
     (c.from_items.ensures ∙ c.in_ok-costs.ensures
     ∙ given_by c.args.problem.now c.as_slice-count.result.now c.as_slice.result.now c.lines_in-lines.result.now
     (lines_in c.args.answer.now.costs) lows names lines)

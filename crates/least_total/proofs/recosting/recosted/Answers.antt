@@ -15,7 +15,7 @@ printed_costs-requires-clause-counted c = ap length c.as_slice.ensures ∙ sym c
 pub printed_costs-requires-clause-positive : goal.printed_costs-requires-clause-positive
 printed_costs-requires-clause-positive c =
     subst (λ (w : List ℕ). All (λ cost. 1 ≤ cost) w) (sym c.as_slice.ensures)
-    (fit_positive c.args.problem.now c.args.costs.now c.keeps_conditions.ensures.problem c.requires.optimal.2.0)
+    (fit_positive c.args.problem.now c.args.costs.now c.keeps_problem_on_graph.ensures.problem c.requires.optimal.2.0)
 
 -- the costs that are printed are those that were given
 printed_at : (c : In_ok-costs) → ArePrintedCosts c.args.problem.now c.args.costs.now c.in_ok-costs.costs
@@ -29,8 +29,8 @@ invariant_of-result c =
       floor = c.answer.inside.floor;
       rows = c.answer.inside.rows;
       proof = c.answer.inside.proof;
-      unfinished =
-          c.answer.inside.unfinished;
+      undecided =
+          c.answer.inside.undecided;
     } in
     recosted_kept c.args.problem.now a c.args.costs.now c.in_ok-costs.costs c.answer.invariant
     (printed_at (goal.at.invariant_of-result c).In_ok-costs)
@@ -45,8 +45,8 @@ returns c =
       floor = c.answer.inside.floor;
       rows = c.answer.inside.rows;
       proof = c.answer.inside.proof;
-      unfinished =
-          c.answer.inside.unfinished;
+      undecided =
+          c.answer.inside.undecided;
     } in
     let new : AnswerParts = record {
       verdict = c.answer.inside.verdict;
@@ -54,11 +54,11 @@ returns c =
       floor = c.answer.inside.floor;
       rows = c.answer.inside.rows;
       proof = c.answer.inside.proof;
-      unfinished =
-          c.answer.inside.unfinished;
+      undecided =
+          c.answer.inside.undecided;
     } in
     let valid : IsValid p a = subst (IsValid p) (sym c.answer.view_is) c.requires.valid in
     let is = ap (λ (b : AnswerParts). b.verdict) c.answer.view_is ∙ c.requires.optimal.1 in
     subst (λ (b : AnswerParts). IsRecosted p b new w) c.answer.view_is
-    (recosted_is p a c.requires.optimal.0 w c.in_ok-costs.costs c.keeps_conditions.ensures.problem valid is c.requires.optimal.2
+    (recosted_is p a c.requires.optimal.0 w c.in_ok-costs.costs c.keeps_problem_on_graph.ensures.problem valid is c.requires.optimal.2
     (printed_at (goal.at.returns c).In_ok-costs))

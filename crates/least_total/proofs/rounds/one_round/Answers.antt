@@ -1,6 +1,6 @@
 -- Costs that are found are fit, and their total is within the bound.
 use Rattle.std.proofs.Common.{◌≡◌, subst}
-use Rattle.design_problem.specs.declared.form.CostBox.{CostBox}
+use Rattle.design_problem.specs.declared.boxes.CostBox.{CostBox}
 use Rattle.design_problem.specs.Boxes.{capped}
 use Rattle.design_problem.specs.Rows.{box_of}
 use Rattle.form_search.specs.declared.found.Found.{Found}
@@ -26,4 +26,4 @@ returns-in-Costs c =
     (Costs c.in-Costs.costs) =
     subst (λ (box : CostBox). IsSearchResult (LeadsWithin p c.args.most) limits.top limits.nodes forms box
     (Costs c.in-Costs.costs)) c.in_ok-costs.ensures.cut found in
-    costs_found p c.args.cap c.args.most c.in-Costs.costs c.keeps_conditions.ensures.problem in_box.0 in_box.1
+    costs_found p c.args.cap c.args.most c.in-Costs.costs c.keeps_problem_on_graph.ensures.problem in_box.0 in_box.1

@@ -11,7 +11,7 @@ loop-link-preserved c = record {
       (c.in_ok-first.ensures.seen (take c.loop-link.link-index c.args.links.now) c.loop-link.invariant.seen);
   lines = λ ends all has.
       unknown_step ends c.args.links.now c.loop-link.link-index _ c.unknown_line.result c.loop-link.lines.items _ _ c.loop-link-test.true
-      c.in_ok-push_line.ensures
+      c.in_ok-push_some.ensures.added
       (c.unknown_line.ensures
       ∙ line_is ends (take c.loop-link.link-index c.args.links.now) _ c.has_end.result c.in_ok-first.first (c.has_end.ensures ends all has)
       (c.in_ok-first.ensures.first (take c.loop-link.link-index c.args.links.now) c.loop-link.invariant.seen))

@@ -9,7 +9,11 @@ use Rattle.live_area.proofs.running.running_area.Goals as goal
 
 made : (c : After-from_items) → ◌≡◌ {A = Database}
     (record { routers = c.lsdb.inside.routers; links = c.from_items.result; subnets = c.lsdb.inside.subnets })
-    (with_live_costs c.args.configs.now c.args.live.now (record { routers = c.lsdb.inside.routers; links = c.lsdb.inside.links; subnets = c.lsdb.inside.subnets }))
+    (with_live_costs c.args.configs.now c.args.live.now (record {
+      routers = c.lsdb.inside.routers;
+      links = c.lsdb.inside.links;
+      subnets = c.lsdb.inside.subnets;
+    }))
 made c =
     let d : Database = record { routers = c.lsdb.inside.routers; links = c.lsdb.inside.links; subnets = c.lsdb.inside.subnets } in
     running_is c.args.configs.now c.args.live.now d c.as_slice.result.now c.from_items.result c.in_ok-metrics.metrics.items

@@ -7,7 +7,8 @@ use Rattle.live_reader.proofs.lsas.inner_place.Goals as goal
 
 pub returns-then-opens_object : goal.returns-then-opens_object
 returns-then-opens_object c j stands =
-    read_named c.args.tape.now c.args.name.now c.args.place c.in_ok-member.member j (Some c.in_ok-member.member) (λ p v. option_map (λ inside. p) (object_members p v)) stands
+    read_named c.args.tape.now c.args.name.now c.args.place c.in_ok-member.member j (Some c.in_ok-member.member)
+    (λ p v. option_map (λ inside. p) (object_members p v)) stands
     (c.in_ok-member.ensures j stands)
     (λ v there. sym (ap (option_map (λ inside. c.in_ok-member.member)) (opened_object c.in_ok-member.member v (sym (c.if-opens_object.ensures v there))).2))
     ∙ first_inner c.args.name.now (object_members c.args.place j)

@@ -9,12 +9,12 @@ use Rattle.live_reader.proofs.lsas.lsa_at.Goals as goal
 
 pub returns-then-not-opens_object : goal.returns-then-not-opens_object
 returns-then-not-opens_object c j stands =
-    ap (lsa_read c.args.around c.args.place) (unopened_object c.args.place j (sym (c.if-not-opens_object.ensures j stands)))
+    rw c.at.ensures (ap (lsa_read c.args.around c.args.place) (unopened_object c.args.place j (sym (c.if-not-opens_object.ensures j stands))))
 
 pub returns-in_default : goal.returns-in_default
 returns-in_default c j stands =
     let there = opened_object c.args.place j (sym (c.if-not-opens_object.ensures j stands)) in
-    lsa_headless c.args.around c.args.place j _ there.2 (c.in_default.ensures j stands)
+    rw c.at-in_default.ensures (lsa_headless c.args.around c.args.place j _ there.2 (c.in_default.ensures j stands))
 
 pub returns-in_err-links : goal.returns-in_err-links
 returns-in_err-links c =

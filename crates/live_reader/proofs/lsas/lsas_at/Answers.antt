@@ -9,7 +9,7 @@ use Rattle.live_reader.proofs.lsas.lsas_at.Goals as goal
 
 pub returns-then-not-opens_array : goal.returns-then-not-opens_array
 returns-then-not-opens_array c j stands =
-    ap (items_read c.args.around) (unopened_array c.args.place j (sym (c.if-not-opens_array.ensures j stands)))
+    rw c.at.ensures (ap (items_read c.args.around) (unopened_array c.args.place j (sym (c.if-not-opens_array.ensures j stands))))
 
 pub returns-in_err-lsas : goal.returns-in_err-lsas
 returns-in_err-lsas c =

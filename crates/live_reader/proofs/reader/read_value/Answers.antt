@@ -12,7 +12,8 @@ live_lsas-requires c = omega (arith, ap length c.in-Ok.ensures.ok.0, tokens_few 
 
 pub decide-requires-clause-small : goal.decide-requires-clause-small
 decide-requires-clause-small c =
-    text_small c.args.text.now c.in-Ok.tape c.args.area c.in-Ok-live_lsas.instances.items c.requires c.in-Ok.ensures.ok.0 c.in-Ok.ensures.ok.1 c.in-Ok.ensures.value c.in-Ok-live_lsas.ensures
+    text_small c.args.text.now c.in-Ok.tape c.args.area c.in-Ok-live_lsas.instances.items c.requires c.in-Ok.ensures.ok.0 c.in-Ok.ensures.ok.1
+    c.in-Ok.ensures.value c.in-Ok-live_lsas.ensures
 
 pub returns-in_err-database-in-Ok-live_lsas : goal.returns-in_err-database-in-Ok-live_lsas
 returns-in_err-database-in-Ok-live_lsas c =

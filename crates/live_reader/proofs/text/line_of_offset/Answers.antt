@@ -11,7 +11,15 @@ loop-byte-init c = record { line = refl; few = omega arith }
 
 pub overflow_add-line : goal.overflow_add-line
 overflow_add-line c =
-    omega (arith, c.loop-byte.invariant.few, c.loop-byte-test.true, ap length c.split_at.ensures.front, length-take c.args.offset c.args.text.now, c.requires.few, c.requires.within)
+    omega (
+      arith,
+      c.loop-byte.invariant.few,
+      c.loop-byte-test.true,
+      ap length c.split_at.ensures.front,
+      length-take c.args.offset c.args.text.now,
+      c.requires.few,
+      c.requires.within,
+    )
 
 pub loop-byte-preserved : goal.loop-byte-preserved
 loop-byte-preserved c = elim c.if-byte-eq10.branch [

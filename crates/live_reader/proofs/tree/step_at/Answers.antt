@@ -28,4 +28,5 @@ pub returns-clause-member : goal.returns-clause-member
 returns-clause-member c ms more e =
     let nodes = c.nodes-nodes.result.now in
     let long : length nodes ≡ length c.args.tape.now = sym (length-map nodes node_token) ∙ ap length c.nodes-nodes.ensures.tokens in
-    some_name nodes c.args.tape.now c.args.place c.in-Key.name c.after.result ms more c.nodes-nodes.ensures.tokens (omega (arith, long)) c.in-Key.is c.after.ensures.value e
+    some_name nodes c.args.tape.now c.args.place c.in-Key.name c.after.result ms more c.nodes-nodes.ensures.tokens (omega (arith, long)) c.in-Key.is
+    c.after.ensures.value e

@@ -23,7 +23,8 @@ loop-step-init c ms stands =
 pub returns-in_err-quad : goal.returns-in_err-quad
 returns-in_err-quad c ms stands =
     c.from_residual-in_err-quad.ensures ∙ sym (ap (option_map (option_map (λ m. m.place)))
-    (walk_breaks_area c.args.tape.now c.args.area (c.args.place + 1) c.loop-step.next ms c.in-Some.step _ (c.loop-step.invariant ms stands) c.in-Some.ensures.member
+    (walk_breaks_area c.args.tape.now c.args.area (c.args.place + 1) c.loop-step.next ms c.in-Some.step _ (c.loop-step.invariant ms stands)
+    c.in-Some.ensures.member
     (ap quad (sym c.as_bytes.ensures.value) ∙ sym c.in_err-quad.ensures)))
 
 pub loop-step-preserved-then-branch-area : goal.loop-step-preserved-then-branch-area
@@ -32,7 +33,8 @@ loop-step-preserved-then-branch-area c ms stands =
     walk_goes_on c.args.tape.now (c.args.place + 1) c.loop-step.next ms c.in-Some.step _ _ (c.loop-step.invariant ms stands) c.in-Some.ensures.member
     (λ seen j value held. (
       all_push is_quad seen _ held.0 (ap is_some read),
-      last_place-here (names_area c.args.area) seen _ (ap (λ o. option_eq nat_eq o (Some c.args.area)) read ∙ eq-eqb c.in_ok-quad.field-0 c.args.area c.if-branch-area.true),
+      last_place-here (names_area c.args.area) seen _ (ap (λ o. option_eq nat_eq o (Some c.args.area)) read ∙
+          eq-eqb c.in_ok-quad.field-0 c.args.area c.if-branch-area.true),
     ))
 
 pub loop-step-preserved : goal.loop-step-preserved
@@ -41,7 +43,8 @@ loop-step-preserved c ms stands =
     walk_goes_on c.args.tape.now (c.args.place + 1) c.loop-step.next ms c.in-Some.step _ _ (c.loop-step.invariant ms stands) c.in-Some.ensures.member
     (λ seen j value held. (
       all_push is_quad seen _ held.0 (ap is_some read),
-      last_place-before (names_area c.args.area) seen _ c.loop-step.found (ap (λ o. option_eq nat_eq o (Some c.args.area)) read ∙ ne_eqb c.in_ok-quad.field-0 c.args.area c.if-branch-area.false) held.1,
+      last_place-before (names_area c.args.area) seen _ c.loop-step.found (ap (λ o. option_eq nat_eq o (Some c.args.area)) read ∙ ne_eqb c.in_ok-quad.field-0
+          c.args.area c.if-branch-area.false) held.1,
     ))
 
 pub returns : goal.returns

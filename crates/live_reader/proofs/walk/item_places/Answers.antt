@@ -18,8 +18,10 @@ loop-end-init c js stands =
 
 pub loop-end-preserved : goal.loop-end-preserved
 loop-end-preserved c js stands =
-    items_go_on c.args.tape.now (c.args.place + 1) c.loop-end.next c.in-Some-item_end.end js _ _ (c.loop-end.invariant js stands) c.in-Some-item_end.ensures.item
-    (λ seen j value held. subst (λ (l : List ℕ). StandAt c.args.tape.now l (seen ++ record { place = c.loop-end.next; value = j } ∷ [])) (sym c.in_ok-push.ensures.items)
+    items_go_on c.args.tape.now (c.args.place + 1) c.loop-end.next c.in-Some-item_end.end js _ _ (c.loop-end.invariant js stands)
+    c.in-Some-item_end.ensures.item
+    (λ seen j value held. subst (λ (l : List ℕ). StandAt c.args.tape.now l (seen ++ record { place = c.loop-end.next; value = j } ∷ []))
+    (sym c.in_ok-push.ensures.items)
     (stand_more c.args.tape.now c.loop-end.places.items seen c.loop-end.next j held value))
 
 pub returns : goal.returns

@@ -10,7 +10,8 @@ use Rattle.live_reader.proofs.walk.place_named.Goals as goal
 
 pub returns-in_err-next : goal.returns-in_err-next
 returns-in_err-next c j stands =
-    c.from_residual.ensures ∙ sym (ap (λ o. option_map (λ m. m.place) (option_and_then (member_named c.args.name.now) o)) (no_members c.args.place j (c.in_err-next.ensures j stands)))
+    c.from_residual.ensures ∙ sym (ap (λ o. option_map (λ m. m.place) (option_and_then (member_named c.args.name.now) o))
+    (no_members c.args.place j (c.in_err-next.ensures j stands)))
 
 pub loop-step-init : goal.loop-step-init
 loop-step-init c ms stands =

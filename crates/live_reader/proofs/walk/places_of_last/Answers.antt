@@ -20,7 +20,8 @@ loop-left-preserved-in-Continue-branch-2 c =
     let new : list_any (same_bytes step.name.now) names ≡ false =
     ap (λ n. list_any (same_bytes n) names) (sym c.as_bytes.ensures.value) ∙ not-true _ (sym c.in_ok-add.ensures.new ∙ c.if-branch.true) in
     subst (λ (ps : List ℕ). AreGathered c.args.steps.now (c.loop-left.left - 1) c.add.new.self ps) (sym c.in_ok-push.ensures.items)
-    (kept c.args.steps.now c.loop-left.left step names c.add.new.self c.loop-left.places.items c.loop-left-test.true c.loop-left.invariant c.step_in-step.ensures new
+    (kept c.args.steps.now c.loop-left.left step names c.add.new.self c.loop-left.places.items c.loop-left-test.true c.loop-left.invariant
+    c.step_in-step.ensures new
     (c.in_ok-add.ensures.names ∙ ap (λ n. cond (list_any (same_bytes n) names) names (names ++ n ∷ [])) c.as_bytes.ensures.value
     ∙ ap (λ b. cond b names (names ++ step.name.now ∷ [])) new))
 

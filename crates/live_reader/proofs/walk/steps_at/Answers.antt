@@ -21,7 +21,8 @@ pub loop-step-preserved : goal.loop-step-preserved
 loop-step-preserved c ms stands =
     let step = c.in-Some-step_at.step in
     walk_goes_on c.args.tape.now (c.args.place + 1) c.loop-step.next ms step _ _ (c.loop-step.invariant ms stands) c.in-Some-step_at.ensures.member
-    (λ seen j value held. subst (λ (l : List Step). StepOver c.args.tape.now l (seen ++ record { name = step.name.now; place = step.place; value = j } ∷ [])) (sym c.in_ok-push.ensures.items)
+    (λ seen j value held. subst (λ (l : List Step). StepOver c.args.tape.now l (seen ++ record { name = step.name.now; place = step.place; value = j } ∷ []))
+    (sym c.in_ok-push.ensures.items)
     (over_more c.args.tape.now c.loop-step.steps.items seen step j held value))
 
 pub returns : goal.returns

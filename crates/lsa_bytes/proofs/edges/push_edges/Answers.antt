@@ -16,7 +16,8 @@ loop-lsa-preserved c =
     let i = c.loop-lsa.lsa-index in
     let lsa = c.lsa-item.result in
     record {
-      pushed = edges_more lsas c.args.kind vertex c.in_ok-vertex.vertex i lsas c.lsas-lsa-items.result.now lsa c.loop-lsa.edges.items c.push_edges_of_kind.new.edges.items _
+      pushed = edges_more lsas c.args.kind vertex c.in_ok-vertex.vertex i lsas c.lsas-lsa-items.result.now lsa c.loop-lsa.edges.items
+          c.push_edges_of_kind.new.edges.items _
           c.lsas-lsa-items.ensures c.loop-lsa-test.true c.lsa-item.is c.in_ok-vertex.ensures.next c.in_ok-vertex.ensures.pushed c.loop-lsa.invariant.pushed;
       near = near_more (is_kind c.args.kind lsa) vertex c.in_ok-vertex.vertex c.args.first i c.in_ok-vertex.ensures.next c.loop-lsa.invariant.near;
     }

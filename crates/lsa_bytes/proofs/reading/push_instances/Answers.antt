@@ -22,11 +22,11 @@ loop-rest-preserved c =
     let rest = c.loop-rest.rest.now in
     let place = length c.args.bytes.now - length rest in
     next c.args.bytes.now rest c.split_at.result.0.now c.split_at.result.1.now c.loop-rest.instances.items
-    c.push_said.new.instances.items place c.loop-rest.invariant
+    c.push_some.new.things.items place c.loop-rest.invariant
     (record {
       lsa_is = c.split_at.ensures.front ∙ ap (λ (n : ℕ). take n rest) c.in_ok-length.ensures.1;
       behind_is = c.split_at.ensures.back ∙ ap (λ (n : ℕ). drop n rest) c.in_ok-length.ensures.1;
       begins = begins_whole rest c.in_ok-length.ensures.0;
     })
     refl c.in_ok-said_at.ensures.0
-    (c.in_ok-push_said.ensures ∙ ap (λ (said : List Instance). c.loop-rest.instances.items ++ said) c.in_ok-said_at.ensures.1)
+    (c.in_ok-push_some.ensures.added ∙ ap (λ (said : List Instance). c.loop-rest.instances.items ++ said) c.in_ok-said_at.ensures.1)

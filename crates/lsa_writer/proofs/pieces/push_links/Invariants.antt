@@ -6,4 +6,5 @@ use Rattle.lsa_writer.specs.WrittenLsas.{links_alone}
 use Rattle.lsa_writer.proofs.pieces.push_links.Given as goal
 
 abbrev pub invariant-loop-said : goal.invariant-loop-said
-invariant-loop-said l = l.bytes.items ++ flat_map link_bytes (links_alone (drop l.said-index l.links)) ≡ l.fn.bytes.items ++ flat_map link_bytes (links_alone l.links)
+invariant-loop-said l = l.bytes.items ++ flat_map link_bytes (links_alone (drop l.said-index l.links)) ≡ l.fn.bytes.items ++
+    flat_map link_bytes (links_alone l.links)

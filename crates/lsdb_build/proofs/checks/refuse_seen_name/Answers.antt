@@ -33,8 +33,8 @@ returns-then-not-branch c =
     let r = c.index-configs-i.result in
     let names = map now c.loop-i.seen.keys in
     let new = c.in_ok-see.ensures.new ∙ ap (λ name. not (list_any (same_bytes name) names)) (ap (λ (x : Router). x.name) c.config.view_is) in
-    ap (at_config NameTwice) (name_test names configs i r c.loop-i-test.true c.index-configs-i.is
-    c.loop-i.invariant.seen c.loop-i.invariant.left false (sym c.if-not-branch.true ∙ new))
+    rw c.at.ensures (ap (at_config NameTwice) (name_test names configs i r c.loop-i-test.true c.index-configs-i.is
+    c.loop-i.invariant.seen c.loop-i.invariant.left false (sym c.if-not-branch.true ∙ new)))
 
 pub returns : goal.returns
 returns c =

@@ -1,10 +1,10 @@
-use Rattle.std.proofs.Common.{◌≡◌, ◌+◌, ◌++◌, ◌∷◌, cond, not, true, is_ok, drop, take, reverse, map, ap, sym, ◌∙◌, append_assoc}
+use Rattle.std.proofs.Common.{◌+◌, ◌++◌, ◌∷◌, cond, drop, take, reverse, map, ap, sym, ◌∙◌, append_assoc}
 use Rattle.lsdb_build.specs.Neighbours.{first_members}
 use Rattle.lsdb_build.specs.Tallies.{same_subnet, subnet_of}
 use Rattle.lsdb_build.proofs.FirstPlaces.{first_members-more}
 use Rattle.lsdb_build.proofs.Tallies.{tally_on, tally_few}
 use Rattle.lsdb_build.proofs.links.first_ports.Goals as goal
-use Rattle.lsdb_build.proofs.links.first_ports.Goals.{else-is_first_member-via-then-is_first_member+else-is_err, else-is_first_member-via-else-is_first_member}
+use Rattle.lsdb_build.proofs.links.first_ports.Goals.{then-is_first_member+in_ok-push, else-is_first_member}
 
 pub add-requires : goal.add-requires
 add-requires c = record {
@@ -25,12 +25,11 @@ loop-port-preserved c =
       seen = tally_on same_subnet subnet_of c.add.new.self.counts links i p c.loop-port-test.true c.port-item.is
           c.subnet_of.result c.subnet_of.ensures
           (c.in_ok-add.ensures.added (map subnet_of before) c.loop-port.invariant.seen);
-      left = elim c.else-is_first_member.branch [
-        | else-is_first_member-via-then-is_first_member+else-is_err w ↦
-            let pushed : is_ok w.push.result ≡ true = w.is_err.ensures.negation ∙ ap not w.if-is_err.false in
-            rw (w.found-is, w.push.ensures.items, pushed, w.again.ensures, append_assoc)
+      left = elim c.if-is_first_member.branch [
+        | then-is_first_member+in_ok-push w ↦
+            rw (w.found-is, w.in_ok-push.ensures.items, w.again.ensures, append_assoc)
             (ap (λ xs. c.loop-port.found.items ++ xs) (sym (more ∙ ap (λ b. cond b (p ∷ rest) rest) w.if-is_first_member.true)) ∙ c.loop-port.invariant.left)
-        | else-is_first_member-via-else-is_first_member w ↦
+        | else-is_first_member w ↦
             rw w.found-is (ap (λ xs. c.loop-port.found.items ++ xs)
             (sym (more ∙ ap (λ b. cond b (p ∷ rest) rest) w.if-is_first_member.false))
             ∙ c.loop-port.invariant.left)

@@ -1,7 +1,7 @@
 use Rattle.std.proofs.Common.{ap, ◌∙◌, map}
 use Rattle.std.proofs.lemmas.List.{take_all}
-use Rattle.lsdb_build.specs.Checks.{link_among}
-use Rattle.lsdb_build.proofs.FirstPlaces.{map_put}
+use Rattle.cost_base.proofs.ListLemmas.{map_put}
+use Rattle.lsdb_build.specs.Links.{link_among}
 use Rattle.lsdb_build.proofs.links.links_by.Goals as goal
 
 pub loop-port-preserved : goal.loop-port-preserved

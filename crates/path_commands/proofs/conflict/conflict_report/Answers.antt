@@ -1,6 +1,6 @@
 -- What is found of the problem that was read is told.
 use Rattle.std.proofs.Common.{refl, inl, inr}
-use Rattle.command_words.specs.Jobs.{limits_seen}
+use Rattle.wide_fraction.specs.SearchLimits.{limits_seen}
 use Rattle.std.proofs.lemmas.Result.{err_from_is_err_and}
 use Rattle.input_files.specs.Stops.{files_named}
 use Rattle.input_files.proofs.Stops.{gave_wanting}

@@ -1,4 +1,4 @@
--- The budget was used up: the lines of the unfinished tree.
+-- The budget was used up: the lines of the undecided tree.
 use Rattle.std.proofs.Common.{arith}
 use Rattle.std.specs.Prelude.{codes}
 use Rattle.path_commands.proofs.ConflictLines.{made_part_short, rows_part_short}
@@ -8,12 +8,12 @@ use Rattle.path_commands.proofs.conflict_text.undecided_text.Goals as goal
 pub push_evidence-requires-clause-rows : goal.push_evidence-requires-clause-rows
 push_evidence-requires-clause-rows c =
     rows_part_short c.args.problem.now c.requires.0 c.requires.1 c.args.members.now c.args.rows.now c.args.tree
-    c.keeps_conditions.ensures.problem c.keeps_conditions.ensures.graph c.requires.3.told
+    c.keeps_problem_on_graph.ensures.problem c.keeps_problem_on_graph.ensures.graph c.requires.3.told
 
 pub push_evidence-requires-clause-tree : goal.push_evidence-requires-clause-tree
 push_evidence-requires-clause-tree c =
     made_part_short c.args.problem.now c.requires.0 c.requires.1 c.args.members.now c.args.rows.now c.args.tree
-    (codes "open") c.at_greatest_bound-tree.result c.keeps_conditions.ensures.problem c.at_greatest_bound-tree.ensures.same
+    (codes "open") c.at_greatest_bound-tree.result c.keeps_problem_on_graph.ensures.problem c.at_greatest_bound-tree.ensures.same
     c.at_greatest_bound-tree.ensures.small c.requires.2 (omega arith) c.requires.3.told
 
 pub returns : goal.returns

@@ -1,6 +1,6 @@
 -- The sets were read, and what was found of them is told.
 use Rattle.std.proofs.lemmas.Result.{err_from_is_err_and}
-use Rattle.command_words.specs.Jobs.{limits_seen}
+use Rattle.wide_fraction.specs.SearchLimits.{limits_seen}
 use Rattle.input_files.proofs.ReadyInputs.{ready_is}
 use Rattle.input_files.proofs.Stops.{gave_wanting}
 use Rattle.path_commands.specs.SetFiles.{sets_read}

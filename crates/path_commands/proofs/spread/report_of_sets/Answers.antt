@@ -1,6 +1,6 @@
 -- What was found of the sets is told.
 use Rattle.std.proofs.lemmas.Result.{IfOk-weaker}
-use Rattle.command_words.specs.Jobs.{limits_seen}
+use Rattle.wide_fraction.specs.SearchLimits.{limits_seen}
 use Rattle.report_writer.specs.Reports.{Reports}
 use Rattle.path_commands.specs.Spreads.{spread_status, spread_text}
 use Rattle.path_commands.specs.SpreadsMade.{ReportsSpread}

@@ -10,6 +10,6 @@ pub returns : goal.returns
 returns c =
     on_ok_weaker c.push_line.result
     (λ last. trees_pushed c.args.text.now.items c.push_tree.new.text.items c.push_tree-2.new.text.items c.push_line.new.text.items
-    (tree_lines (codes "proof") (option_copied c.args.proof)) (tree_lines (codes "open") (option_copied c.args.unfinished)) (codes "end" ∷ [])
+    (tree_lines (codes "proof") (option_copied c.args.proof)) (tree_lines (codes "open") (option_copied c.args.undecided)) (codes "end" ∷ [])
     c.in_ok-push_tree.ensures c.in_ok-push_tree-2.ensures last)
     c.push_line.ensures

@@ -1,4 +1,4 @@
--- The unfinished tree at the greatest bound.
+-- The undecided tree at the greatest bound.
 use Rattle.std.proofs.Common.{◌∙◌, ap}
 use Rattle.std.specs.Prelude.{None, Some, codes}
 use Rattle.design_problem.specs.declared.answer.CapTree.{CapTree}

@@ -15,13 +15,13 @@ use Rattle.path_requests.proofs.present.assemble_present.Goals as goal
 
 pub graph-requires-clause-one_each : goal.graph-requires-clause-one_each
 graph-requires-clause-one_each c =
-    let a = c.args.requests.now in
+    let a = c.args.request_file.now in
     let d = c.args.names.now in
     ap length (c.as_slice.ensures.value ∙ c.in_ok-prices.ensures ∙ sym (present_prices_are a d 0 d.links)) ∙ prices_count (present_asked a) d 0 d.links
 
 pub graph-requires-clause-priced : goal.graph-requires-clause-priced
 graph-requires-clause-priced c =
-    let a = c.args.requests.now in
+    let a = c.args.request_file.now in
     let d = c.args.names.now in
     subst (λ (prices : List Price). All IsLinkPrice prices) (sym (c.as_slice.ensures.value ∙ c.in_ok-prices.ensures ∙ sym (present_prices_are a d 0 d.links)))
     (prices_link (present_asked a) d 0 d.links (present_is_asked a c.items-lines.ensures.asked) c.links-links.ensures.base.each_link c.requires.costs)
@@ -33,11 +33,11 @@ made : (c : After-from_items-4) → ◌≡◌ {A = DesignProblem}
       vars = c.from_items.result;
       low = c.from_items-2.result;
       high = c.from_items-3.result;
-      paths = c.from_items-4.result;
+      requests = c.from_items-4.result;
     })
-    (present_problem_of c.args.requests.now c.args.names.now)
+    (present_problem_of c.args.request_file.now c.args.names.now)
 made c =
-    let a = c.args.requests.now in
+    let a = c.args.request_file.now in
     let d = c.args.names.now in
     assembled (present_asked a) d c.as_slice.result.now c.in_ok-graph.graph c.from_items.result c.from_items-2.result
     c.from_items-3.result c.from_items-4.result
@@ -49,11 +49,11 @@ made c =
     (c.from_items-3.ensures ∙ c.new-3.ensures.items
     ∙ sym (ap (λ (os : List ℕ).
     map high_of (filter_map (λ l. range_at (present_asked a) d (slice_get d.links l)) os)) (none_owned a d)))
-    (c.from_items-4.ensures ∙ c.requires.paths ∙ present_paths d (outline d) a.items)
+    (c.from_items-4.ensures ∙ c.requires.requests ∙ present_paths d (outline d) a.items)
 
 pub invariant_of-result : goal.invariant_of-result
 invariant_of-result c =
-    let a = c.args.requests.now in
+    let a = c.args.request_file.now in
     let d = c.args.names.now in
     subst (λ (p : DesignProblem). IsProblem p) (sym (made (goal.at.invariant_of-result c).After-from_items-4))
     (whole_is_problem (present_asked a) d (present_is_asked a c.items-lines.ensures.asked) c.links-links.ensures.base

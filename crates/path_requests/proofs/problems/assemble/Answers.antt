@@ -15,7 +15,7 @@ made : (c : After-from_items-4) → ◌≡◌ {A = DesignProblem}
       vars = c.from_items.result;
       low = c.from_items-2.result;
       high = c.from_items-3.result;
-      paths = c.from_items-4.result;
+      requests = c.from_items-4.result;
     })
     (problem_of c.args.choices.now.asked c.args.choices.now.database)
 made c =
@@ -27,14 +27,14 @@ made c =
     (c.from_items-3.ensures ∙ c.in_ok-high.ensures
     ∙ ap (λ (own : List ℕ). map high_of (filter_map (λ l. range_at a d (slice_get d.links l)) own))
     c.requires.own)
-    (c.from_items-4.ensures ∙ c.requires.paths)
+    (c.from_items-4.ensures ∙ c.requires.requests)
 
 pub invariant_of-result : goal.invariant_of-result
 invariant_of-result c =
     let a = c.args.choices.now.asked in
     let d = c.args.choices.now.database in
     subst (λ (p : DesignProblem). IsProblem p) (sym (made (goal.at.invariant_of-result c).After-from_items-4))
-    (whole_is_problem a d c.requests-requests.ensures.asked c.links-links.ensures.base c.requires.lines c.requires.ends
+    (whole_is_problem a d c.request_file-request_file.ensures.asked c.links-links.ensures.base c.requires.lines c.requires.ends
     (omega (arith, ap length c.requires.own, c.requires.few)))
 
 pub returns : goal.returns

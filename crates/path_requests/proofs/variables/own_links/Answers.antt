@@ -1,15 +1,20 @@
-use Rattle.std.proofs.Common.{◌∙◌, ap, sym, ◌++◌, ◌<◌, ℕ, List, ◌+◌, ◌-◌, length, get_or, append_assoc, arith}
-use Rattle.std.specs.Prelude.{filter}
-use Rattle.cost_base.specs.Lists.{numbers_from}
-use Rattle.lsdb_build.proofs.GraphLaws.{numbers_step}
-use Rattle.path_requests.specs.Meaning.{own}
-use Rattle.wanted_paths.proofs.ExcludedEdges.{filter_head}
+use Rattle.std.proofs.Common.{◌≡◌, ◌∙◌, ap, ◌++◌, ◌∷◌, ◌<◌, ℕ, Bool, List, [], cond, length, get_or, refl, arith}
+use Rattle.std.specs.Prelude.{Some, slice_get, ◌&&◌, ◌==◌}
+use Rattle.cost_base.proofs.ListLemmas.{filter-numbers_from-push}
+use Rattle.lsdb_build.specs.Graphs.{Database}
 use Rattle.lsdb_build.specs.declared.Linked.{Linked}
+use Rattle.request_reader.specs.Asked.{Asked}
+use Rattle.path_requests.specs.Meaning.{is_free, own, owner_at, range_of}
 use Rattle.path_requests.proofs.LinkSteps.{link_there}
 use Rattle.path_requests.proofs.variables.own_links.Goals as goal
 
-pub push_own-requires : goal.push_own-requires
-push_own-requires c =
+-- whether a link that is there has a variable of its own
+own_is : (a : Asked) (d : Database) (k : ℕ) (x : Linked) → slice_get d.links k ≡ Some x →
+    (is_free (range_of a d x) && owner_at a d k (Some x) == k) ≡ own a d k
+own_is a d k x at = rw at refl
+
+pub is_own-requires : goal.is_own-requires
+is_own-requires c =
     let links = c.args.choices.now.database.links in
     let within : c.loop-i.i < length links = omega (arith, c.loop-i-test.true, ap length c.links-link-items.ensures.value) in
     link_there links c.loop-i.i c.link-item.result within
@@ -20,9 +25,9 @@ loop-i-preserved c =
     let a = c.args.choices.now.asked in
     let d = c.args.choices.now.database in
     let i = c.loop-i.i in
-    rw (c.in_ok-push_own.ensures, append_assoc)
-    (ap (λ (ls : List ℕ). c.loop-i.made.items ++ ls) (sym (filter_head (own a d) i (numbers_from (i + 1) (length d.links - (i + 1))))
-    ∙ ap (λ (ns : List ℕ). filter (own a d) ns)
-    (sym (numbers_step i (length d.links)
-    (omega (arith, c.loop-i-test.true, ap length c.links-link-items.ensures.value)))))
-    ∙ c.loop-i.invariant)
+    let made = c.loop-i.made.items in
+    let within : i < length d.links = omega (arith, c.loop-i-test.true, ap length c.links-link-items.ensures.value) in
+    let there = link_there d.links i c.link-item.result within
+    (c.link-item.is ∙ ap (λ (ls : List Linked). get_or ls i c.link-item.result) c.links-link-items.ensures.value) in
+    filter-numbers_from-push (own a d) i made c.push_if.new.things.items c.loop-i.invariant
+    (c.in_ok-push_if.ensures ∙ ap (λ (b : Bool). cond b (made ++ i ∷ []) made) (c.is_own.ensures ∙ own_is a d i c.link-item.result there))

@@ -13,7 +13,7 @@ loop-i-init c = record { so_far = λ k. Nothing; items = c.in_ok-noted.ensures; 
 
 pub loop-i-preserved : goal.loop-i-preserved
 loop-i-preserved c =
-    let a = c.args.requests.now in
+    let a = c.args.request_file.now in
     let d = c.args.lsdb.now in
     let i = c.loop-i.i in
     let link = c.link-item.result in

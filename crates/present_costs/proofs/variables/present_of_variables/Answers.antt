@@ -15,7 +15,7 @@ costs_within-requires-clause-noted c =
 
 pub returns : goal.returns
 returns c =
-    let a = c.args.requests.now in
+    let a = c.args.request_file.now in
     let d = c.args.lsdb.now in
     let low = c.as_slice-low.ensures ∙ ap (λ (p : DesignProblem). p.low) (c.problem.view_is ∙ c.requires) in
     let high = c.as_slice.ensures ∙ ap (λ (p : DesignProblem). p.high) (c.problem.view_is ∙ c.requires) in

@@ -15,7 +15,7 @@ printed_costs-requires-clause-counted c = ap length c.as_slice.ensures ∙ sym c
 pub printed_costs-requires-clause-positive : goal.printed_costs-requires-clause-positive
 printed_costs-requires-clause-positive c =
     subst (λ (ws : List ℕ). All (λ cost. 1 ≤ cost) ws) (sym c.as_slice.ensures)
-    (box_positive c.args.problem.now c.args.costs.now c.keeps_conditions.ensures.problem c.requires)
+    (box_positive c.args.problem.now c.args.costs.now c.keeps_problem_on_graph.ensures.problem c.requires)
 
 pub returns-clause-named : goal.returns-clause-named
 returns-clause-named c =

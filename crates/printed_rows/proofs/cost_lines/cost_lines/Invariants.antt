@@ -1,5 +1,5 @@
 use Rattle.std.proofs.Common.{take}
-use Rattle.printed_rows.specs.PrintedCosts.{CostLinesOf}
+use Rattle.design_problem.specs.Answers.{CostLinesOf}
 use Rattle.printed_rows.proofs.cost_lines.cost_lines.Given as goal
 
 -- the lines so far are those of the first names

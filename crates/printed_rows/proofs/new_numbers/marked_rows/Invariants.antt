@@ -1,5 +1,6 @@
 use Rattle.std.proofs.Common.{◌≡◌, ◌+◌, ◌++◌, length}
-use Rattle.printed_rows.specs.NewNumbers.{is_marked, kept_from, kept_rows}
+use Rattle.cost_base.specs.Marks.{is_marked}
+use Rattle.printed_rows.specs.NewNumbers.{kept_from, kept_rows}
 use Rattle.printed_rows.proofs.new_numbers.marked_rows.Given as goal
 
 -- the rows that are left, and what is kept of all of them

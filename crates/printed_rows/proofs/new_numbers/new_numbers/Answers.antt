@@ -1,5 +1,5 @@
 use Rattle.std.proofs.Common.{◌≡◌, ℕ, ◌+◌, ◌≤◌, ◌∙◌, ap, sym, arith, Bool, if◌then◌else◌}
-use Rattle.printed_rows.specs.NewNumbers.{is_marked}
+use Rattle.cost_base.specs.Marks.{is_marked}
 use Rattle.printed_rows.proofs.NumberLaws.{numbered_more}
 use Rattle.printed_rows.proofs.new_numbers.new_numbers.Goals as goal
 use Rattle.printed_rows.proofs.new_numbers.new_numbers.Goals.{then-is_marked, else-is_marked}

@@ -1,5 +1,6 @@
 use Rattle.std.proofs.Common.{◌≡◌, ◌≤◌}
-use Rattle.printed_rows.specs.NewNumbers.{AreNewNumbers, is_marked, new_number}
+use Rattle.cost_base.specs.Marks.{is_marked}
+use Rattle.printed_rows.specs.NewNumbers.{AreNewNumbers, new_number}
 use Rattle.printed_rows.proofs.new_numbers.new_numbers.Given as goal
 
 -- the numbers of the rows so far, and the number of the next one

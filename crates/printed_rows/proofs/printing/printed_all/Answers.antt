@@ -1,7 +1,8 @@
 -- The rows that the trees name are marked, numbered and kept.
 use Rattle.std.proofs.Common.{rules, ◌≡◌, ◌^◌, ◌<◌, ◌∙◌, ap, sym, List, ℕ, Bool, length}
+use Rattle.cost_base.specs.Marks.{is_marked}
 use Rattle.printed_rows.specs.NamedRows.{is_row_named_in}
-use Rattle.printed_rows.specs.NewNumbers.{is_marked, kept_rows}
+use Rattle.printed_rows.specs.NewNumbers.{kept_rows}
 use Rattle.printed_rows.proofs.PrintLaws.{trees_agree, trees_known, trees_numbered}
 use Rattle.printed_rows.proofs.printing.printed_all.Goals as goal
 

@@ -2,7 +2,7 @@ use Rattle.std.proofs.Common.{rules, ◌<◌, ◌≤◌, length, get_or}
 use Rattle.std.proofs.lemmas.List.{get_or_default}
 use Rattle.design_problem.specs.declared.tree.Member.TheVariants.{Low as ByLow}
 use Rattle.printed_rows.specs.NamedRows.{member_names}
-use Rattle.printed_rows.proofs.MarkLaws.{all_marked, marked_more}
+use Rattle.cost_base.proofs.MarkLaws.{all_marked, marked_more}
 use Rattle.printed_rows.proofs.row_marks.mark_basis.Goals as goal
 
 pub loop-member-preserved : goal.loop-member-preserved

@@ -1,6 +1,6 @@
 use Rattle.std.proofs.Common.{rules, ◌<◌, ◌≤◌, length}
 use Rattle.printed_rows.specs.NamedRows.{names}
-use Rattle.printed_rows.proofs.MarkLaws.{all_marked, marked_more}
+use Rattle.cost_base.proofs.MarkLaws.{all_marked, marked_more}
 use Rattle.printed_rows.proofs.row_marks.mark_entries.Goals as goal
 
 pub loop-entry-preserved : goal.loop-entry-preserved

@@ -1,7 +1,7 @@
 use Rattle.std.proofs.Common.{rules, ◌<◌, ◌≤◌, length, get_or}
 use Rattle.std.proofs.lemmas.List.{get_or_default}
 use Rattle.printed_rows.specs.NamedRows.{part_names}
-use Rattle.printed_rows.proofs.MarkLaws.{all_marked, marked_more}
+use Rattle.cost_base.proofs.MarkLaws.{all_marked, marked_more}
 use Rattle.printed_rows.proofs.row_marks.mark_parts.Goals as goal
 
 pub loop-row-preserved : goal.loop-row-preserved

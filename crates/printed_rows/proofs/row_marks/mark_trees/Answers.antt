@@ -1,6 +1,6 @@
 use Rattle.std.proofs.Common.{rules, ◌<◌, ◌≤◌, length}
 use Rattle.printed_rows.specs.NamedRows.{is_row_named}
-use Rattle.printed_rows.proofs.MarkLaws.{all_marked, marked_more}
+use Rattle.cost_base.proofs.MarkLaws.{all_marked, marked_more}
 use Rattle.printed_rows.proofs.row_marks.mark_trees.Goals as goal
 
 pub loop-tree-preserved : goal.loop-tree-preserved

@@ -6,12 +6,12 @@ use Rattle.area_graph.specs.Costs.{cost, price_at}
 use Rattle.area_graph.proofs.Bounds.{cost_below}
 use Rattle.design_problem.specs.Problems.{request_ends}
 use Rattle.design_problem.proofs.PathBounds.{path-known}
-use Rattle.rival_separation.specs.Offers.{Offers}
-use Rattle.rival_separation.proofs.OfferLemmas.{best_of_fewer}
+use Rattle.rival_separation.specs.Deviations.{DeviatesFromPath}
+use Rattle.rival_separation.proofs.DeviationLemmas.{best_of_fewer}
 use Rattle.rival_separation.proofs.deviation.least_deviation.Goals as goal
 
-pub better_at-best-requires-clause-near : goal.better_at-best-requires-clause-near
-better_at-best-requires-clause-near c =
+pub best_at-best-requires-clause-near : goal.best_at-best-requires-clause-near
+best_at-best-requires-clause-near c =
     let es = c.args.outlook.now.request.now.path.edges in
     let below : cost c.args.outlook.now.graph.now c.args.outlook.now.point.now es < 2 ^ 26 * c.args.outlook.now.point.now.scale =
     cost_below c.args.outlook.now.graph.now c.args.outlook.now.point.now c.args.outlook.now.request.now.path.start es c.args.outlook.now.request.now.end
@@ -50,6 +50,6 @@ returns c =
     let past : length es ≤ c.loop-place.place =
     subst (λ (xs : List ℕ). length xs ≤ c.loop-place.place) c.as_slice-number-items.ensures
     c.loop-place-test.false in
-    best_of_fewer (Offers c.args.outlook.now.graph.now c.args.outlook.now.point.now c.args.outlook.now.request.now.excluded c.args.room.now es)
+    best_of_fewer (DeviatesFromPath c.args.outlook.now.graph.now c.args.outlook.now.point.now c.args.outlook.now.request.now.excluded c.args.room.now es)
     (λ k e. k < c.loop-place.place) (λ k e. k < length es) c.loop-place.best c.loop-place.invariant.best
-    (λ k e total seen offer. omega arith)
+    (λ k e total seen deviation. omega arith)

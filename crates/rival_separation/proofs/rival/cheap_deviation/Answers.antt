@@ -8,12 +8,12 @@ returns-in-None c =
     let found = c.requires.found in
     leads_by c.args.outlook.now.graph.now c.args.outlook.now.point.now (request_ends c.args.outlook.now.request.now) found.limit c.args.room.now
     c.args.outlook.now.request.now.path.edges c.keeps_conditions.ensures.fits found.found c.requires.path found.above
-    (λ place e total offer. absurd (c.in-None.ensures place e total offer.within offer))
+    (λ place e total deviation. absurd (c.in-None.ensures place e total deviation.within deviation))
 
 pub returns-then-least_lead-best : goal.returns-then-least_lead-best
 returns-then-least_lead-best c =
     let found = c.requires.found in
     leads_by c.args.outlook.now.graph.now c.args.outlook.now.point.now (request_ends c.args.outlook.now.request.now) found.limit c.args.room.now
     c.args.outlook.now.request.now.path.edges c.keeps_conditions.ensures.fits found.found c.requires.path found.above
-    (λ place e total offer. let least = c.in-Some.ensures.1 place e total offer.within offer in let value =
+    (λ place e total deviation. let least = c.in-Some.ensures.1 place e total deviation.within deviation in let value =
     c.least_lead.ensures in let more = c.if-least_lead-best.true in omega arith)

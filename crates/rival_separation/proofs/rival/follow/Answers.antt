@@ -11,7 +11,8 @@ use Rattle.rival_separation.proofs.rival.follow.Goals as goal
 pub loop-at-init : goal.loop-at-init
 loop-at-init c = record {
   found = c.requires.found;
-  so_far = way_completes c.args.outlook.now.graph.now c.args.outlook.now.point.now (request_ends c.args.outlook.now.request.now) c.args.room.now c.args.start c.requires.way;
+  so_far = way_completes c.args.outlook.now.graph.now c.args.outlook.now.point.now (request_ends c.args.outlook.now.request.now) c.args.room.now c.args.start
+      c.requires.way;
   same = refl;
 }
 
@@ -64,7 +65,8 @@ loop-at-preserved c =
 
 pub returns-clause-followed : goal.returns-clause-followed
 returns-clause-followed c =
-    (completed c.args.outlook.now.graph.now c.args.outlook.now.point.now (request_ends c.args.outlook.now.request.now) c.loop-at.invariant.found.0 c.loop-at.room
+    (completed c.args.outlook.now.graph.now c.args.outlook.now.point.now (request_ends c.args.outlook.now.request.now) c.loop-at.invariant.found.0
+    c.loop-at.room
     (IsWay c.args.outlook.now.graph.now c.args.outlook.now.point.now (request_ends c.args.outlook.now.request.now) c.args.room.now c.args.start)
     c.loop-at.room.path c.loop-at.at c.loop-at.invariant.found.1 c.loop-at.invariant.so_far (search rules)).0
 

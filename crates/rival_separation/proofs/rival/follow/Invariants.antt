@@ -7,7 +7,8 @@ use Rattle.rival_separation.proofs.rival.follow.Given as goal
 abbrev pub invariant-loop-at : goal.invariant-loop-at
 invariant-loop-at l = record {
   found : (limit : ℕ) × HasDistancesBelow l.outlook.graph.now l.outlook.point.now (request_ends l.outlook.request.now) limit l.room;
-  so_far : Completes l.outlook.graph.now l.outlook.point.now (request_ends l.outlook.request.now) l.room (IsWay l.outlook.graph.now l.outlook.point.now (request_ends l.outlook.request.now) l.fn.room l.start) l.room.path l.at;
+  so_far : Completes l.outlook.graph.now l.outlook.point.now (request_ends l.outlook.request.now) l.room
+      (IsWay l.outlook.graph.now l.outlook.point.now (request_ends l.outlook.request.now) l.fn.room l.start) l.room.path l.at;
   same : l.room ≡ record l.fn.room { path = l.room.path };
 }
 

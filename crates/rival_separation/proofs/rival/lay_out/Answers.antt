@@ -10,7 +10,8 @@ use Rattle.rival_separation.proofs.rival.lay_out.Goals as goal
 pub put_front-requires : goal.put_front-requires
 put_front-requires c =
     let ends = request_ends c.args.outlook.now.request.now in
-    let short = simple-short c.args.outlook.now.graph.now ends.start c.args.outlook.now.request.now.path.edges ends.end c.keeps_conditions.ensures.fits c.requires.path.simple in
+    let short = simple-short c.args.outlook.now.graph.now ends.start c.args.outlook.now.request.now.path.edges ends.end c.keeps_conditions.ensures.fits
+    c.requires.path.simple in
     let within = c.requires.best.0.within in
     let front = take_short c.args.best.place c.as_slice.result.now in
     let count = c.requires.found.found.room_for.vertices in
@@ -40,7 +41,7 @@ leave_by-requires-clause-way c =
     subst (λ (r : Findings). HasWay g p ends (with_edge r e) (edge_at g e).to) (sym c.put_front.ensures)
     (way_from g p ends c.requires.found.limit room wanted walk place e c.args.best.cost c.keeps_conditions.ensures.fits
     c.requires.fits c.requires.found.found c.requires.path c.requires.best.0
-    (λ k i other offer. c.requires.best.1 k i other offer.within offer) c.requires.cheap c.requires.found.above
+    (λ k i other deviation. c.requires.best.1 k i other deviation.within deviation) c.requires.cheap c.requires.found.above
     (ap (λ (es : List ℕ). take place es ++ e ∷ []) c.as_slice.ensures))
 
 pub returns-clause-cheapest : goal.returns-clause-cheapest
@@ -58,5 +59,5 @@ returns-clause-cheapest c =
     c.leave_by.ensures.followed in
     followed_cheapest g p ends c.requires.found.limit room wanted walk c.leave_by.new.room.path place e c.args.best.cost
     c.keeps_conditions.ensures.fits c.requires.fits c.requires.found.found c.requires.path c.requires.best.0
-    (λ k i other offer. c.requires.best.1 k i other offer.within offer) c.requires.cheap c.requires.found.above
+    (λ k i other deviation. c.requires.best.1 k i other deviation.within deviation) c.requires.cheap c.requires.found.above
     (ap (λ (es : List ℕ). take place es ++ e ∷ []) c.as_slice.ensures) followed

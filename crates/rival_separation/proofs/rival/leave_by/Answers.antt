@@ -17,7 +17,8 @@ follow-requires-clause-found c =
     let room : Findings = c.args.room.now in
     let limit = c.requires.found.0 in (
       limit,
-      found_kept c.args.outlook.now.graph.now c.args.outlook.now.point.now (request_ends c.args.outlook.now.request.now) limit room (room.path ++ c.args.edge ∷ [])
+      found_kept c.args.outlook.now.graph.now c.args.outlook.now.point.now (request_ends c.args.outlook.now.request.now) limit room
+          (room.path ++ c.args.edge ∷ [])
           c.add_to_path.new.self c.add_to_path.ensures c.requires.found.1,
     )
 

@@ -3,7 +3,7 @@ use Rattle.std.proofs.lemmas.List.{take_all}
 use Rattle.std.proofs.lemmas.List.Elements.{All-more}
 use Rattle.area_graph.specs.Area.{edges_out}
 use Rattle.spf_ties.specs.Distances.{is_tight}
-use Rattle.rival_separation.proofs.OfferLemmas.{out_edge}
+use Rattle.rival_separation.proofs.DeviationLemmas.{out_edge}
 use Rattle.rival_separation.proofs.rival.next_edge.Goals as goal
 
 pub leads_on-requires-clause-known : goal.leads_on-requires-clause-known

@@ -12,6 +12,7 @@ returns c =
     MatchResult-weaker c.verdict_at.result c.verdict_at.ensures
     (λ rest h. (
       h.0,
-      subst (λ (lines : List (List ℕ)). Goes (AtOtherHead of) c.args.text lines (AtOtherCosts of) rest) (verdict-behind of h.0) (go-then c.in_ok-behind.ensures h.1),
+      subst (λ (lines : List (List ℕ)). Goes (AtOtherHead of) c.args.text lines (AtOtherCosts of) rest) (verdict-behind of h.0)
+          (go-then c.in_ok-behind.ensures h.1),
     ))
     (λ stop h. stop-then stop c.in_ok-behind.ensures h)

@@ -6,7 +6,7 @@ use Rattle.spf_ties.specs.Distances.{Findings}
 use Rattle.rival_separation.specs.Rivals.{HasWay, IsFollowedByLeast, with_edge}
 use Rattle.rival_separation.proofs.RivalLemmas.{found_kept}
 use Rattle.set_separation.specs.PrefixTrees.{prefix_of_place}
-use Rattle.set_separation.proofs.DepartureLemmas.{followed_cheapest, way_on}
+use Rattle.set_separation.proofs.DeviationLemmas.{followed_cheapest, way_on}
 use Rattle.set_separation.proofs.outsider.lay_out.Goals as goal
 
 pub leave_by-requires-clause-known : goal.leave_by-requires-clause-known
@@ -35,7 +35,7 @@ leave_by-requires-clause-way c =
     (way_on g p ends c.requires.found.limit room wanted c.args.costed.now.tree.now c.args.costed.now.costs.now c.keeps_conditions.ensures.fits
     c.requires.found.found tied.tree c.requires.costs (cost g p c.args.outlook.now.request.now.path.edges) c.args.best.place e
     c.args.best.cost c.requires.fits tied.tied c.requires.best.0
-    (λ k i other departs. c.requires.best.1 k i other departs.within departs) c.requires.cheap
+    (λ k i other deviates. c.requires.best.1 k i other deviates.within deviates) c.requires.cheap
     c.requires.found.above)
 
 pub returns-clause-cheapest : goal.returns-clause-cheapest
@@ -51,7 +51,7 @@ returns-clause-cheapest c = λ wanted tied.
     followed_cheapest g p ends c.requires.found.limit room wanted c.args.costed.now.tree.now c.args.costed.now.costs.now
     c.keeps_conditions.ensures.fits c.requires.found.found tied.tree c.requires.costs
     (cost g p c.args.outlook.now.request.now.path.edges) c.args.best.place e c.args.best.cost c.requires.fits tied.tied
-    c.requires.best.0 (λ k i other departs. c.requires.best.1 k i other departs.within departs) c.requires.cheap
+    c.requires.best.0 (λ k i other deviates. c.requires.best.1 k i other deviates.within deviates) c.requires.cheap
     c.requires.found.above
     c.leave_by.new.room.path followed
 

@@ -1,9 +1,10 @@
 use Rattle.std.proofs.Common.{◌-◌, ◌≤◌, ◌∷◌, [], ◌++◌, ◌∙◌, ap, sym, subst, arith, ℕ, List, length, reverse}
 use Rattle.design_problem.specs.Problems.{request_ends}
 use Rattle.spf_ties.specs.Distances.{Findings}
+use Rattle.rival_separation.proofs.RivalLemmas.{other_path}
 use Rattle.set_separation.specs.declared.prefix_tree.Step.{Step}
 use Rattle.set_separation.specs.PrefixTrees.{step_at}
-use Rattle.set_separation.proofs.PutPrefixes.{IsPutBack, put_more, put_short, put_whole, rest_kept}
+use Rattle.set_separation.proofs.PutPrefixes.{IsPutBack, put_more, put_short, put_whole}
 use Rattle.set_separation.proofs.outsider.put_prefix.Goals as goal
 
 pub add_to_path-requires : goal.add_to_path-requires
@@ -27,7 +28,7 @@ loop-at-preserved c =
     let put = put_more steps c.args.place c.loop-at.at path c.add_to_path.new.self.path other
     (let known = c.loop-at.invariant.path.known in omega arith) c.loop-at.invariant.path path_is in
     record {
-      rest = rest_kept c.args.room.now c.loop-at.room c.add_to_path.new.self _ c.add_to_path.ensures c.loop-at.invariant.rest;
+      rest = other_path c.args.room.now c.loop-at.room c.add_to_path.new.self _ c.loop-at.invariant.rest c.add_to_path.ensures;
       path = subst (λ (ss : List Step). IsPutBack steps c.args.place (step_at ss i).place c.add_to_path.new.self.path) (sym c.steps.ensures) put;
     }
 

@@ -1,7 +1,7 @@
 use Rattle.std.proofs.Common.{rules, ◌≡◌, ◌<◌, ◌∷◌, [], ℕ, ap, sym, subst, arith, IsPermutation, List, Bool, length, set, replicate, false}
 use Rattle.std.proofs.lemmas.List.Elements.{All-head}
 use Rattle.std.proofs.lemmas.List.Sorted.{All-permutation, length_permutation}
-use Rattle.spf_ties.specs.declared.heap.Entry.{Entry}
+use Rattle.spf_ties.specs.declared.heap.WaitingVertex.{WaitingVertex}
 use Rattle.spf_ties.specs.Searches.{AreSearchNumbers, MayWait, Underway}
 use Rattle.spf_ties.proofs.SearchLemmas.{begun, entry_of, front_begun, open-le}
 use Rattle.spf_ties.proofs.search.find.Goals as goal
@@ -17,7 +17,8 @@ loop-entry-init c =
     let n = length c.args.front.now.numbers.items in
     let m = length c.args.front.now.settled.items in
     let alone : IsPermutation (entry_of 0 t ∷ []) c.push.new.self.entries =
-    subst (λ (xs : List Entry). IsPermutation (entry_of 0 t ∷ xs) c.push.new.self.entries) (ap (λ w. w.entries) c.clear.ensures) c.push.ensures.entries in
+    subst (λ (xs : List WaitingVertex). IsPermutation (entry_of 0 t ∷ xs) c.push.new.self.entries) (ap (λ w. w.entries) c.clear.ensures) c.push.ensures.entries
+    in
     let within : t < n = let target = c.requires.target in let count = c.requires.front.count in omega arith in
     record {
       front = subst (λ (d : List ℕ). AreSearchNumbers g p (set d t 0) c.fill-2.new.self.items) (sym numbers)
@@ -28,7 +29,8 @@ loop-entry-init c =
           open-le c.args.subgraph.now.graph.now c.fill-2.new.self.items in omega arith;
       underway = (
         0,
-        subst (λ (d : List ℕ). Underway g p c.args.subgraph.now.exclusion.now t limit 0 [] (set d t 0) c.fill-2.new.self.items c.push.new.self.entries) (sym numbers)
+        subst (λ (d : List ℕ). Underway g p c.args.subgraph.now.exclusion.now t limit 0 [] (set d t 0) c.fill-2.new.self.items c.push.new.self.entries)
+            (sym numbers)
             (subst (λ (settled : List Bool).
             Underway g p c.args.subgraph.now.exclusion.now t limit 0 [] (set (replicate n limit) t 0) settled
             c.push.new.self.entries) (sym marks)

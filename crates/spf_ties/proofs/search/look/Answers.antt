@@ -76,6 +76,7 @@ returns-else-distance-index-clause-underway c = λ t limit least todo under.
     let read = (goal.at.returns-else-distance-index-clause-underway c).After-index-2 in
     let new = distance_through read in
     let old = number_before read in
-    kept c.args.subgraph.now.graph.now c.args.subgraph.now.point.now c.args.subgraph.now.exclusion.now t limit least c.args.number todo c.args.front.now.numbers.items
+    kept c.args.subgraph.now.graph.now c.args.subgraph.now.point.now c.args.subgraph.now.exclusion.now t limit least c.args.number todo
+    c.args.front.now.numbers.items
     c.args.front.now.settled.items c.args.front.now.waiting.entries
     under (λ left. omega (arith, c.if-distance-index.false))

@@ -1,6 +1,6 @@
 use Rattle.std.proofs.Common.{rules, ◌≡◌, ◌<◌, ◌∙◌, sym, arith, length, false, true}
 use Rattle.std.proofs.lemmas.List.{get_or_default}
-use Rattle.spf_ties.specs.Searches.{is_settled}
+use Rattle.cost_base.specs.Marks.{is_marked}
 use Rattle.spf_ties.proofs.SearchLemmas.{passed_over, settled_next}
 use Rattle.spf_ties.proofs.search.take_in.Goals as goal
 
@@ -9,7 +9,7 @@ returns-then-not-index-clause-underway c = λ t limit least waiting under moved 
     let within : c.args.entry.vertex < length c.args.front.now.settled.items = let known = c.requires.vertex in
     let marks = c.requires.front.marks in omega arith in
     let mark : c.index.result.now ≡ false = search rules in
-    let waited : is_settled c.args.front.now.settled.items c.args.entry.vertex ≡ false =
+    let waited : is_marked c.args.front.now.settled.items c.args.entry.vertex ≡ false =
     sym (c.index.ensures ∙ get_or_default c.args.front.now.settled.items c.args.entry.vertex c.index.result.now
     false within) ∙ mark in (
       c.args.entry.distance,
@@ -24,7 +24,7 @@ returns-else-not-index-clause-underway c = λ t limit least waiting under moved 
     let within : c.args.entry.vertex < length c.args.front.now.settled.items = let known = c.requires.vertex in
     let marks = c.requires.front.marks in omega arith in
     let mark : c.index.result.now ≡ true = search rules in
-    let done : is_settled c.args.front.now.settled.items c.args.entry.vertex ≡ true =
+    let done : is_marked c.args.front.now.settled.items c.args.entry.vertex ≡ true =
     sym (c.index.ensures ∙ get_or_default c.args.front.now.settled.items c.args.entry.vertex c.index.result.now
     false within) ∙ mark in (
       least,

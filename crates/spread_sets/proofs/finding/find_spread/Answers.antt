@@ -15,13 +15,13 @@ pub with_trees-requires : goal.with_trees-requires
 with_trees-requires c =
     let p = c.args.problem.now in
     let lines = c.args.sets.now in
-    let made = c.in_ok-all.ensures ∙ ap (λ (ls : List (List ℕ)). sets_below ls c.path_count.result) c.as_slice.ensures in
-    made_are p lines c.in_ok-all.all.items c.requires (made_sets p lines c.in_ok-all.all.items c.path_count.result c.path_count.ensures made)
+    let made = c.in_ok-all.ensures ∙ ap (λ (ls : List (List ℕ)). sets_below ls c.request_count.result) c.as_slice.ensures in
+    made_are p lines c.in_ok-all.all.items c.requires (made_sets p lines c.in_ok-all.all.items c.request_count.result c.request_count.ensures made)
 
 pub box_at-requires : goal.box_at-requires
 box_at-requires c =
     let p = c.args.problem.now in
-    lows_within p c.greatest_of-cap.result c.keeps_conditions.ensures.problem (c.greatest_of-cap.ensures
+    lows_within p c.greatest_of-cap.result c.keeps_problem_on_graph.ensures.problem (c.greatest_of-cap.ensures
     ∙ ap greatest_cost (c.as_slice-2.ensures ∙ ap (λ (q : DesignProblem). q.high) c.problem.view_is))
 
 pub answered-requires-clause-sought : goal.answered-requires-clause-sought
@@ -29,8 +29,8 @@ answered-requires-clause-sought c =
     let p = c.args.problem.now in
     let lines = c.args.sets.now in
     let limits = c.args.limits.now in
-    let made = c.in_ok-all.ensures ∙ ap (λ (ls : List (List ℕ)). sets_below ls c.path_count.result) c.as_slice.ensures in
-    let same = made_sets p lines c.in_ok-all.all.items c.path_count.result c.path_count.ensures made in
+    let made = c.in_ok-all.ensures ∙ ap (λ (ls : List (List ℕ)). sets_below ls c.request_count.result) c.as_slice.ensures in
+    let same = made_sets p lines c.in_ok-all.all.items c.request_count.result c.request_count.ensures made in
     let cap : c.greatest_of-cap.result ≡ greatest_bound p = c.greatest_of-cap.ensures
     ∙ ap greatest_cost (c.as_slice-2.ensures ∙ ap (λ (q : DesignProblem). q.high) c.problem.view_is) in (
       all_sets p lines,
@@ -45,8 +45,8 @@ returns c =
     let p = c.args.problem.now in
     let lines = c.args.sets.now in
     let limits = c.args.limits.now in
-    let made = c.in_ok-all.ensures ∙ ap (λ (ls : List (List ℕ)). sets_below ls c.path_count.result) c.as_slice.ensures in
-    let same = made_sets p lines c.in_ok-all.all.items c.path_count.result c.path_count.ensures made in
+    let made = c.in_ok-all.ensures ∙ ap (λ (ls : List (List ℕ)). sets_below ls c.request_count.result) c.as_slice.ensures in
+    let same = made_sets p lines c.in_ok-all.all.items c.request_count.result c.request_count.ensures made in
     let cap : c.greatest_of-cap.result ≡ greatest_bound p = c.greatest_of-cap.ensures
     ∙ ap greatest_cost (c.as_slice-2.ensures ∙ ap (λ (q : DesignProblem). q.high) c.problem.view_is) in
     c.answered.ensures (all_sets p lines) (all_sets_are p lines c.requires) (all_sets_distinct p lines c.requires)

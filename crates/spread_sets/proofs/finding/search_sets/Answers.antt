@@ -1,8 +1,7 @@
 -- The search begins with the problem and its sets, and what it finds is by the rows that are known then.
 use Rattle.std.proofs.Common.{◌≡◌, sym, ◌∙◌, ap, subst, length}
 use Rattle.design_problem.specs.Boxes.{IsBox}
-use Rattle.design_problem.specs.Problems.{DesignProblem}
-use Rattle.cost_branching.specs.Rivals.{IsProblemOnGraph}
+use Rattle.design_problem.specs.Problems.{DesignProblem, IsProblemOnGraph}
 use Rattle.spread_sets.specs.MemberSets.{AreMemberSets, sets_in}
 use Rattle.spread_sets.specs.Sources.{KnownSets}
 use Rattle.spread_sets.proofs.Findings.{found_as, sought_is, trees_sets}
@@ -13,7 +12,7 @@ search_box-requires-clause-rows g c = ap (λ (s : KnownSets). s.rows) c.in_ok-so
 
 pub search_box-requires-clause-kept : goal.search_box-requires-clause-kept
 search_box-requires-clause-kept g c =
-    subst (λ (s : KnownSets). IsProblemOnGraph s.problem) (sym c.in_ok-source.ensures) c.keeps_conditions.ensures
+    subst (λ (s : KnownSets). IsProblemOnGraph s.problem) (sym c.in_ok-source.ensures) c.keeps_problem_on_graph.ensures
 
 pub search_box-requires-clause-sets : goal.search_box-requires-clause-sets
 search_box-requires-clause-sets g c =

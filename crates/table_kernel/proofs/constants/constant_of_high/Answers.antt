@@ -29,5 +29,6 @@ returns-clause-constant c =
 pub returns-clause-size : goal.returns-clause-size
 returns-clause-size c =
     let s = sizes (goal.at.returns-clause-size c).After-range_of in
-    let is = high_read c.args.common c.range_of.result c.args.constant s.0 s.1 c.requires.constant (pos c.args.high -ℤ pos c.args.low) c.range_of.ensures.range in
+    let is = high_read c.args.common c.range_of.result c.args.constant s.0 s.1 c.requires.constant (pos c.args.high -ℤ pos c.args.low) c.range_of.ensures.range
+    in
     subst (λ (z : ℤ). nat_abs z ≤ 2 ^ 62) (sym is.0) is.1

@@ -54,7 +54,13 @@ bounds-constants-low c =
 line_is : (c : After-index-lines-var) → c.index-lines-var.result ≡ slice_index_or c.args.lines.now c.loop-var.var no_line
 line_is c =
     c.index-lines-var.is
-    ∙ get_or_default c.args.lines.now c.loop-var.var _ no_line (omega (arith, c.loop-var-test.true, c.requires.places.variables, ap length c.as_slice-low.ensures))
+    ∙ get_or_default c.args.lines.now c.loop-var.var _ no_line (omega (
+      arith,
+      c.loop-var-test.true,
+      c.requires.places.variables,
+      ap length
+          c.as_slice-low.ensures,
+    ))
 
 pub constant_over-constant-requires-clause-line : goal.constant_over-constant-requires-clause-line
 constant_over-constant-requires-clause-line c =
@@ -62,7 +68,8 @@ constant_over-constant-requires-clause-line c =
     let i_in : i < length c.args.lines.now = omega (arith, c.loop-var-test.true, c.requires.places.variables, ap length c.as_slice-low.ensures) in
     let common = read_number c.args.common (omega (arith, size_most c.args.common (2 ^ 30) c.requires.common.0 c.requires.common.1)) in
     subst (λ (z : ℤ). IsShortConstant z c.index-lines-var.result) (sym common)
-    (subst (IsShortConstant c.args.common) (sym (line_is (goal.at.constant_over-constant-requires-clause-line c).After-index-lines-var)) (c.requires.short i no_line i_in))
+    (subst (IsShortConstant c.args.common) (sym (line_is (goal.at.constant_over-constant-requires-clause-line c).After-index-lines-var))
+    (c.requires.short i no_line i_in))
 
 pub loop-var-preserved : goal.loop-var-preserved
 loop-var-preserved c =
@@ -87,9 +94,11 @@ loop-var-preserved c =
           n i xs (to_z w64 (of_z w64 x)) (to_z w64 (of_z w64 y)) i_in there v.low (x_read ∙ here);
       high = second_more (λ k z. z ≡ high_constant (slice_index c.as_slice-low.result.now k) (slice_index c.as_slice-high.result.now k)
           (to_z w64 (of_z w64 c.args.common)) (line_constant (to_z w64 (of_z w64 c.args.common)) (slice_index_or c.args.lines.now k no_line)))
-          n i xs (to_z w64 (of_z w64 x)) (to_z w64 (of_z w64 y)) i_in (subst (λ (m : ℕ). n + i < m) (sym (length-set xs i (to_z w64 (of_z w64 x)))) there) v.high
+          n i xs (to_z w64 (of_z w64 x)) (to_z w64 (of_z w64 y)) i_in (subst (λ (m : ℕ). n + i < m) (sym (length-set xs i (to_z w64 (of_z w64 x)))) there)
+          v.high
           (y_read ∙ c.constant_of_high.ensures.constant
-          ∙ ap (high_constant (slice_index c.as_slice-low.result.now i) (slice_index c.as_slice-high.result.now i) (to_z w64 (of_z w64 c.args.common))) (x_read ∙ here));
+          ∙ ap (high_constant (slice_index c.as_slice-low.result.now i) (slice_index c.as_slice-high.result.now i) (to_z w64 (of_z w64 c.args.common)))
+          (x_read ∙ here));
       small = λ within. All-set (λ (z : ℤ). nat_abs z ≤ 2 ^ 62) (slice_set xs i (to_z w64 (of_z w64 x))) (n + i) (to_z w64 (of_z w64 y))
           (subst (λ (z : ℤ). nat_abs z ≤ 2 ^ 62) (sym y_read) c.constant_of_high.ensures.size)
           (All-set (λ (z : ℤ). nat_abs z ≤ 2 ^ 62) xs i (to_z w64 (of_z w64 x))
@@ -113,7 +122,8 @@ returns-clause-high c v v_in =
     ∙ c.loop-var.invariant.high v (omega (arith, v_in, c.loop-var-test.false, ap length c.as_slice-low.ensures))
     ∙ ap (λ (xs : List ℕ). high_constant (slice_index xs v) (slice_index high v) common (line_constant common line)) c.as_slice-low.ensures
     ∙ ap (λ (xs : List ℕ). high_constant (slice_index c.args.costs.now.low v) (slice_index xs v) common (line_constant common line)) c.as_slice-high.ensures
-    ∙ ap (λ (z : ℤ). high_constant (slice_index c.args.costs.now.low v) (slice_index c.args.costs.now.high v) z (line_constant z line)) (read_common c.args.common c.requires.common)
+    ∙ ap (λ (z : ℤ). high_constant (slice_index c.args.costs.now.low v) (slice_index c.args.costs.now.high v) z (line_constant z line))
+    (read_common c.args.common c.requires.common)
 
 pub returns-clause-small : goal.returns-clause-small
 returns-clause-small c = c.loop-var.invariant.small

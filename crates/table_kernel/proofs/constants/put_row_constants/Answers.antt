@@ -72,7 +72,8 @@ loop-row-preserved c =
     record {
       count = length-set xs (n + n + i) (to_z w64 (of_z w64 x)) ∙ v.count;
       bounds = λ k k_in. get_or-set_other xs (n + n + i) k (to_z w64 (of_z w64 x)) (pos 0) (λ same. omega (arith, same, k_in)) ∙ v.bounds k k_in;
-      rows = behind_more (λ k z. z ≡ row_constant_of (to_z w64 (of_z w64 c.args.common)) c.args.costs.now.low c.args.constants.now (slice_index_or c.args.rows.now k no_form))
+      rows = behind_more (λ k z. z ≡ row_constant_of (to_z w64 (of_z w64 c.args.common)) c.args.costs.now.low c.args.constants.now
+          (slice_index_or c.args.rows.now k no_form))
           (n + n) i xs (to_z w64 (of_z w64 x)) there v.rows (x_read ∙ here);
       small = λ within. All-set (λ (z : ℤ). nat_abs z ≤ 2 ^ 62) xs (n + n + i) (to_z w64 (of_z w64 x))
           (subst (λ (z : ℤ). nat_abs z ≤ 2 ^ 62) (sym x_read) (omega (arith, c.row_constant.ensures.size))) (v.small within);
@@ -88,7 +89,8 @@ pub returns-clause-rows : goal.returns-clause-rows
 returns-clause-rows c row row_in =
     ap (λ (n : ℕ). number_at c.loop-row.constants (n + n + row)) (ap length (sym c.as_slice-width.ensures))
     ∙ c.loop-row.invariant.rows row (omega (arith, row_in, c.loop-row-test.false))
-    ∙ ap (λ (z : ℤ). row_constant_of z c.args.costs.now.low c.args.constants.now (slice_index_or c.args.rows.now row no_form)) (read_common c.args.common c.requires.common)
+    ∙ ap (λ (z : ℤ). row_constant_of z c.args.costs.now.low c.args.constants.now (slice_index_or c.args.rows.now row no_form))
+    (read_common c.args.common c.requires.common)
 
 pub returns-clause-small : goal.returns-clause-small
 returns-clause-small c = c.loop-row.invariant.small

@@ -31,7 +31,8 @@ module _ (c : After-as_slice) where
 
   right : (d : Line) →
       IsReadRight (read c.args.fall *ℤ read (slice_index_or c.as_slice.result.now c.args.column (pos 0)))
-      (read (slice_index_or c.loop-var.lines c.loop-var.var d).constant +ℤ read (read c.args.fall *ℤ read (slice_index_or c.as_slice.result.now c.args.column (pos 0))))
+      (read (slice_index_or c.loop-var.lines c.loop-var.var d).constant +ℤ read (read c.args.fall *ℤ read
+      (slice_index_or c.as_slice.result.now c.args.column (pos 0))))
       (old.constant +ℤ (c.args.fall *ℤ number_at old.numbers c.args.column))
   right d =
       subst (λ (z : ℤ). IsReadRight (read c.args.fall *ℤ read z)
@@ -58,7 +59,8 @@ loop-var-preserved c =
     let i_in : i < length c.loop-var.lines = omega (arith, inside a, v.count) in
     let z = read ((read (slice_index_or c.loop-var.lines i c.index-lines-var-in-loop-var.result).constant)
     +ℤ read (read c.args.fall *ℤ read (slice_index_or c.as_slice.result.now c.args.column (pos 0)))) in
-    let here : with_constant (slice_index_or c.loop-var.lines i c.index-lines-var-in-loop-var-2.result) z ≡ raised_kernel_line c.args.column (read c.args.fall) (old a) =
+    let here : with_constant (slice_index_or c.loop-var.lines i c.index-lines-var-in-loop-var-2.result) z ≡
+    raised_kernel_line c.args.column (read c.args.fall) (old a) =
     ap (λ (line : Line). with_constant line z) (there a c.index-lines-var-in-loop-var-2.result)
     ∙ ap (with_constant (old a)) ((right a c.index-lines-var-in-loop-var.result).value
     ∙ ap (λ (y : ℤ). (old a).constant +ℤ (y *ℤ number_at (old a).numbers c.args.column)) (sym f)) in

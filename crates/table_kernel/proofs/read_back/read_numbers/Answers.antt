@@ -19,15 +19,15 @@ number_over-requires-clause-whole c =
     let inside = column_in (goal.at.number_over-requires-clause-whole c).After-entry in
     subst (λ (z : ℤ). c.entry.result.denominator ∣ nat_abs z) (sym (to_z-of_z w64 c.args.denominator c.ranges.denominator))
     (subst (λ (q : Fraction). q.denominator ∣ nat_abs c.args.denominator) (sym c.entry.ensures)
-    (c.requires.whole (suc c.loop-column.column) (omega (arith, c.requires.row, inside))))
+    (c.requires.whole (suc c.loop-column.column) (omega (arith, c.requires.fractions, inside))))
 
 pub loop-column-preserved : goal.loop-column-preserved
 loop-column-preserved c =
-    next_read c.args.row.now (read c.args.denominator) c.args.numbers.now c.loop-column.numbers c.set.new.self c.loop-column.column c.entry.result
+    next_read c.args.fractions.now (read c.args.denominator) c.args.numbers.now c.loop-column.numbers c.set.new.self c.loop-column.column c.entry.result
     c.in-Some.number (column_in (goal.at.loop-column-preserved c).After-entry) c.entry.ensures c.loop-column.invariant c.in-Some.ensures c.set.ensures
 
 pub entry-requires : goal.entry-requires
-entry-requires c = omega (arith, c.loop-column-test.true, ap length c.as_slice-column-end.ensures, c.requires.row)
+entry-requires c = omega (arith, c.loop-column-test.true, ap length c.as_slice-column-end.ensures, c.requires.fractions)
 
 pub number_over-requires-clause-denominator : goal.number_over-requires-clause-denominator
 number_over-requires-clause-denominator c = range_read c.args.denominator c.requires.denominator
@@ -37,5 +37,6 @@ returns-in_default-clause-refused c = (
   c.loop-column.column,
   omega (arith, c.loop-column-test.true, ap length c.as_slice-column-end.ensures),
   subst (λ (q : Fraction). 2 ^ 30 < nat_abs (over_denominator (nat_abs c.args.denominator) q)) c.entry.ensures
-      (subst (λ (z : ℤ). 2 ^ 30 < nat_abs (over_denominator (nat_abs z) c.entry.result)) (to_z-of_z w64 c.args.denominator c.ranges.denominator) c.in_default.ensures),
+      (subst (λ (z : ℤ). 2 ^ 30 < nat_abs (over_denominator (nat_abs z) c.entry.result)) (to_z-of_z w64 c.args.denominator c.ranges.denominator)
+      c.in_default.ensures),
 )

@@ -8,7 +8,7 @@ pub record IsUnderway (start last block : ℕ) (lines path : List ℕ) : Type 0 
   pub number : last ≡ number_after start block
   pub small : last < 2 ^ 31
   pub text : lines ≡ codes "ospfcost request 1\narea 0\nfree all 1 65535\n" ++ over_blocks (block_path start) block
-  pub whole : path ≡ codes "path " ++ over_blocks (hops start) block
+  pub whole : path ≡ codes "path" ++ over_blocks (hops start) block
 
 abbrev pub invariant-loop-block : goal.invariant-loop-block
-invariant-loop-block l = IsUnderway l.start l.number l.block l.text.items l.whole.items
+invariant-loop-block l = IsUnderway l.start l.number l.block l.text.items l.whole

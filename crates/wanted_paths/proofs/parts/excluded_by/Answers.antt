@@ -15,7 +15,8 @@ loop-part-preserved c =
     let within = c.loop-part-test.true in
     let is = c.part-item.is in record {
       faults =
-          no_fault (parts_faults d line) parts i part (part_faults d line part) (parts_faults d line parts) (parts_faults d line (drop (i + 1) parts)) within is refl
+          no_fault (parts_faults d line) parts i part (part_faults d line part) (parts_faults d line parts) (parts_faults d line (drop (i + 1) parts)) within is
+          refl
           c.in_ok-push_part.ensures.made c.loop-part.invariant.faults;
       excluded =
           added (excluded_by_all d g) parts i part c.loop-part.excluded.items (excluded_by d g part) c.push_part.new.excluded.items (excluded_by_all d g parts)

@@ -1,17 +1,10 @@
-use Rattle.std.proofs.Common.{◌∙◌, ap, sym, ◌++◌, ℕ, List, ◌+◌, ◌-◌, length, false, append_assoc}
-use Rattle.std.specs.Prelude.{filter, slice_index_or}
-use Rattle.cost_base.specs.Lists.{numbers_from}
-use Rattle.lsdb_build.proofs.GraphLaws.{numbers_step}
-use Rattle.wanted_paths.proofs.ExcludedEdges.{filter_head}
+use Rattle.std.proofs.Common.{◌∙◌, ap, ◌++◌, ◌∷◌, [], Bool, cond}
+use Rattle.cost_base.proofs.ListLemmas.{filter-numbers_from-push}
+use Rattle.cost_base.specs.Marks.{is_marked}
 use Rattle.wanted_paths.proofs.parts.marked.Goals as goal
 
 pub loop-edge-preserved : goal.loop-edge-preserved
 loop-edge-preserved c =
-    let marks = c.args.marks.now in
-    let edge = c.loop-edge.edge in
-    rw (c.in_ok-push_marked.ensures, append_assoc)
-    (ap (λ (es : List ℕ). c.loop-edge.found.items ++ es)
-    (sym (filter_head (λ e. slice_index_or marks e false) edge
-    (numbers_from (edge + 1) (length marks - (edge + 1))))
-    ∙ ap (λ (ns : List ℕ). filter (λ e. slice_index_or marks e false) ns) (sym (numbers_step edge (length marks) c.loop-edge-test.true)))
-    ∙ c.loop-edge.invariant)
+    filter-numbers_from-push (is_marked c.args.marks.now) c.loop-edge.edge c.loop-edge.found.items
+    c.push_if.new.things.items c.loop-edge.invariant
+    (c.in_ok-push_if.ensures ∙ ap (λ (b : Bool). cond b (c.loop-edge.found.items ++ c.loop-edge.edge ∷ []) c.loop-edge.found.items) c.is_marked.ensures)

@@ -11,5 +11,7 @@ loop-hop-preserved c =
     let i = c.loop-hop.hop-index in
     let hop = c.hop-item.result in
     let last = c.args.last.now in
-    no_fault (λ hs. hop_faults d line hs last) hops i hop (interface_faults d line hop.0 hop.1) (hop_faults d line hops last) (hop_faults d line (drop (i + 1) hops) last)
-    c.loop-hop-test.true c.hop-item.is refl (hop_known d line hop.0 hop.1 c.as_bytes.result.now c.as_bytes-in-loop-hop.result.now c.as_bytes.ensures c.as_bytes-in-loop-hop.ensures c.in_ok-link.ensures.made.0) c.loop-hop.invariant
+    no_fault (λ hs. hop_faults d line hs last) hops i hop (interface_faults d line hop.0 hop.1) (hop_faults d line hops last)
+    (hop_faults d line (drop (i + 1) hops) last)
+    c.loop-hop-test.true c.hop-item.is refl (hop_known d line hop.0 hop.1 c.as_bytes.result.now c.as_bytes-in-loop-hop.result.now c.as_bytes.ensures
+    c.as_bytes-in-loop-hop.ensures c.in_ok-link.ensures.made.0) c.loop-hop.invariant

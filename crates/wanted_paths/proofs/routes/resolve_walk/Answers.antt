@@ -32,7 +32,7 @@ pub returns-then-not-is_simple_walk-clause-refused :
     goal.returns-then-not-is_simple_walk-clause-refused
 returns-then-not-is_simple_walk-clause-refused c =
     let tested = (goal.at.returns-then-not-is_simple_walk-clause-refused c).After-is_simple_walk in
-    ap first_of (faults_are tested ∙ ap (λ b. fault_unless b (LoopPath c.args.line)) c.if-not-is_simple_walk.true)
+    rw c.at.ensures (ap first_of (faults_are tested ∙ ap (λ b. fault_unless b (LoopPath c.args.line)) c.if-not-is_simple_walk.true))
 
 pub returns-clause-made : goal.returns-clause-made
 returns-clause-made c =

@@ -1,4 +1,5 @@
 use Rattle.std.proofs.Common.{◌+◌, ◌<◌, ◌∙◌, ap, arith, length, ltb-true, subst, sym}
+use Rattle.cost_base.specs.Marks.{is_marked}
 use Rattle.area_graph.specs.declared.Edge.{Edge}
 use Rattle.area_graph.specs.declared.Point.{Point}
 use Rattle.area_graph.specs.Area.{Area, edge_at, no_edge}
@@ -6,7 +7,6 @@ use Rattle.area_graph.specs.Costs.{IsPriced, at_costs, cost, price_at}
 use Rattle.design_problem.specs.declared.problem.Request.{Request}
 use Rattle.design_problem.specs.Problems.{request_at}
 use Rattle.change_steps.specs.Orders.{costs_in}
-use Rattle.change_steps.specs.States.{is_done_in}
 use Rattle.change_steps.specs.Reaches.{least_from_to}
 use Rattle.change_steps.proofs.ReachLaws.{dearer_over, price_below}
 use Rattle.change_steps.proofs.StateLaws.{point_fits}
@@ -53,13 +53,13 @@ returns c = λ less.
     let mine = c.path_cost.ensures.value
     ∙ ap (λ (g : Area). cost g c.point-point.result.now c.request-request.result.now.path.edges) c.graph-graph.ensures
     ∙ ap (λ (x : Point). cost r.graph x c.request-request.result.now.path.edges) p
-    ∙ ap (λ (x : Request). cost r.graph (at_costs (costs_in r.moves (is_done_in c.args.state.now.done.items))) x.path.edges) q in
+    ∙ ap (λ (x : Request). cost r.graph (at_costs (costs_in r.moves (is_marked c.args.state.now.done.items))) x.path.edges) q in
     let before = c.at_least-before.ensures.least ∙ ap (λ (x : Request). least_from_to L x.path.start c.edge_of-over.result.from) q
-    ∙ ap (λ (x : Edge). least_from_to L (request_at r.paths c.args.number).path.start x.from) edge_is in
+    ∙ ap (λ (x : Edge). least_from_to L (request_at r.requests c.args.number).path.start x.from) edge_is in
     let price = c.price_of.ensures ∙ ap (λ (x : Edge). price_at c.point-point.result.now x.price) edge_is
     ∙ ap (λ (x : Point). price_at x (edge_at r.graph c.args.edge).price) p in
     let behind = c.at_least-behind.ensures.least ∙ ap (λ (x : Request). least_from_to L c.edge_of-over.result.to x.end) q
-    ∙ ap (λ (x : Edge). least_from_to L x.to (request_at r.paths c.args.number).end) edge_is in
+    ∙ ap (λ (x : Edge). least_from_to L x.to (request_at r.requests c.args.number).end) edge_is in
     let lt = ltb-true c.path_cost.result (c.at_least-before.result + (c.price_of.result + c.at_least-behind.result)) less in
-    dearer_over r (is_done_in c.args.state.now.done.items) L c.args.number c.args.edge c.path_cost.result c.keeps_conditions.ensures c.requires.reach.least mine
+    dearer_over r (is_marked c.args.state.now.done.items) L c.args.number c.args.edge c.path_cost.result c.keeps_conditions.ensures c.requires.reach.least mine
     (omega (arith, lt, before, price, behind))

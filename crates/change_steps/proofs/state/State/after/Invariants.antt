@@ -1,5 +1,5 @@
 use Rattle.std.proofs.Common.{◌≡◌, take}
-use Rattle.change_steps.specs.Orders.{is_one_of}
+use Rattle.cost_base.specs.Marks.{is_one_of}
 use Rattle.change_steps.specs.States.{marks_of}
 use Rattle.change_steps.specs.Search.{IsStateOf}
 use Rattle.change_steps.proofs.state.State.after.Given as goal

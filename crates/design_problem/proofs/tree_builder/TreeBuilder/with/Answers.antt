@@ -10,8 +10,8 @@ invariant_of-result c =
     let inside = c.self.inside in
     let some : 0 < length (places_of inside.is_open inside.boxes inside.entries.items) =
     subst (λ (tree : Growing). 0 < length tree.places) (sym c.self.view_is) c.requires.open in
-    built_more inside.entries.items c.push.new.entries.items c.args.entry inside.is_open c.in_ok-is_open.is_open
-    inside.boxes c.go_on.new.boxes inside.marks c.go_on.new.marks c.in_ok-push.ensures some
+    built_more inside.entries.items c.push_last.new.things.items c.args.entry inside.is_open c.in_ok-is_open.is_open
+    inside.boxes c.go_on.new.boxes inside.marks c.go_on.new.marks c.in_ok-push_last.ensures.added some
     c.in_ok-is_open.ensures.next
     (c.in_ok-is_open.ensures.marks (length inside.marks.low.items) inside.entries.items c.self.invariant.marked
     (ap (λ (es : List Entry). length es + 1) c.as_slice.ensures.value))
@@ -21,8 +21,8 @@ pub returns : goal.returns
 returns c =
     let inside = c.self.inside in
     view_grown inside.is_open inside.boxes inside.entries.items c.args.entry c.in_ok-is_open.is_open c.go_on.new.boxes
-    c.push.new.entries.items c.args.self c.self.view_is c.requires.open c.in_ok-is_open.ensures.next
-    c.in_ok-push.ensures
+    c.push_last.new.things.items c.args.self c.self.view_is c.requires.open c.in_ok-is_open.ensures.next
+    c.in_ok-push_last.ensures.added
 
 pub go_on-requires-clause-low_marks : goal.go_on-requires-clause-low_marks
 go_on-requires-clause-low_marks c =

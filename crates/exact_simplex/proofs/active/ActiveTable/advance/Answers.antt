@@ -5,4 +5,4 @@ use Rattle.exact_simplex.proofs.active.ActiveTable.advance.Goals as goal
 pub return_to_kernel-requires-clause-active : goal.return_to_kernel-requires-clause-active
 return_to_kernel-requires-clause-active c =
     let told = c.in_ok-solved.ensures in
-    stepped_beside c.args.self.now c.advance.new.self c.requires.fractions c.requires.active told.keeps told.room told.whole
+    stepped_beside c.args.self.now c.advance.new.self c.requires.fractions c.requires.active told.keeps told.room told.tableau

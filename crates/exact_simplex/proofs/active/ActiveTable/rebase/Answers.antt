@@ -1,6 +1,6 @@
 -- The kernel moves where it is one; and where the table in fractions moves, the kernel can be read back.
 use Rattle.std.proofs.Common.{◌≡◌, ap, subst, sym, ◌∙◌, false, length}
-use Rattle.design_problem.specs.declared.form.CostBox.{CostBox}
+use Rattle.design_problem.specs.declared.boxes.CostBox.{CostBox}
 use Rattle.design_problem.specs.Boxes.{IsBox}
 use Rattle.table_kernel.specs.declared.kernel.Kernel.{Kernel}
 use Rattle.exact_simplex.specs.declared.active.ActiveTable.{ActiveTable}
@@ -30,4 +30,4 @@ return_to_kernel-requires-clause-active c =
       | else-self w ↦ ap (λ (b : ActiveTable). b.kernel.table.costs) w.self-is
     ] in
     let box = subst (λ (b : CostBox). IsBox (length b.low) costs) (sym costs_are) c.requires.ranges in
-    moved_beside a c.rebase-2.new.self costs out active box c.rebase-2.ensures.rebased c.rebase-2.ensures.whole c.rebase-2.ensures.room
+    moved_beside a c.rebase-2.new.self costs out active box c.rebase-2.ensures.rebased c.rebase-2.ensures.tableau c.rebase-2.ensures.room

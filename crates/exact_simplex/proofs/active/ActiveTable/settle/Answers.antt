@@ -22,7 +22,7 @@ pub rounds-smaller : goal.rounds-smaller
 rounds-smaller c =
     let old = c.rounds.self in
     let new = c.work.new.self in
-    nearer (table_of old) (table_of new) c.in_ok-solved.ensures.active.whole (forms_between old new c.in_ok-solved.ensures.keeps)
+    nearer (table_of old) (table_of new) c.in_ok-solved.ensures.active.tableau (forms_between old new c.in_ok-solved.ensures.keeps)
     (subst (IsAhead (table_of old) (table_of new)) c.in_default.is c.in_ok-solved.ensures.ahead)
 
 pub rounds-preserved : goal.rounds-preserved

@@ -1,5 +1,5 @@
 use Rattle.std.proofs.Common.{length}
-use Rattle.form_search.specs.Turns.{IsWatch}
+use Rattle.form_search.specs.NextEntries.{IsWatch}
 use Rattle.form_search.proofs.watch.Watch.look.Given as goal
 
 abbrev pub invariant-loop-place : goal.invariant-loop-place

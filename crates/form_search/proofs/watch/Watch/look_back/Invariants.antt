@@ -1,5 +1,5 @@
 use Rattle.std.proofs.Common.{length, vec_len}
-use Rattle.form_search.specs.Turns.{IsWatch}
+use Rattle.form_search.specs.NextEntries.{IsWatch}
 use Rattle.form_search.proofs.watch.Watch.look_back.Given as goal
 
 abbrev pub invariant-loop-last : goal.invariant-loop-last

@@ -1,5 +1,5 @@
 use Rattle.std.proofs.Common.{ℕ, vec_len}
-use Rattle.form_search.specs.Turns.{IsWatch}
+use Rattle.form_search.specs.NextEntries.{IsWatch}
 use Rattle.form_search.proofs.watch.Watch.release.Given as goal
 
 abbrev pub invariant-loop-row : goal.invariant-loop-row

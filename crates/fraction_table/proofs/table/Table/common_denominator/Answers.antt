@@ -8,7 +8,7 @@ use Rattle.std.proofs.lemmas.Result.{err_from_is_err_and}
 use Rattle.whole_numbers.specs.Fractions.{Fraction}
 use Rattle.design_problem.specs.Steps.{lcm_of}
 use Rattle.fraction_table.specs.Corners.{denominators_of}
-use Rattle.fraction_rows.specs.Entries.{IsPassing}
+use Rattle.fraction_lines.specs.Entries.{IsPassing}
 use Rattle.fraction_table.proofs.MultiplierSteps.{read_back}
 use Rattle.fraction_table.proofs.Pivots.{lines_long}
 use Rattle.fraction_table.proofs.CornerScales.{constant_read, denominator_within, denominators_long, multiple_more, multiple_wide, taken_positive, top_bounds}
@@ -23,34 +23,34 @@ loop-var-init c = record { so_far = refl; within = (top_bounds c.args.self.now.t
 pub index-requires : goal.index-requires
 index-requires c =
     let t = c.args.self.now in
-    omega (arith, c.loop-var-test.true, ap length c.as_slice-var-end.ensures, lines_long t c.requires.whole, t.lines.ok.0)
+    omega (arith, c.loop-var-test.true, ap length c.as_slice-var-end.ensures, lines_long t c.requires.tableau, t.lines.ok.0)
 
 pub lcm-requires-clause-left_positive : goal.lcm-requires-clause-left_positive
 lcm-requires-clause-left_positive c =
     let t = c.args.self.now in
-    let positive = taken_positive t c.requires.whole c.loop-var.var (omega (arith, c.loop-var-test.true, ap length c.as_slice-var-end.ensures)) in
+    let positive = taken_positive t c.requires.tableau c.loop-var.var (omega (arith, c.loop-var-test.true, ap length c.as_slice-var-end.ensures)) in
     subst (λ (z : ℤ). pos 0 <ℤ z) (sym c.loop-var.invariant.so_far) (omega (arith, ints, positive))
 
 pub lcm-requires-clause-right_within : goal.lcm-requires-clause-right_within
 lcm-requires-clause-right_within c =
     let t = c.args.self.now in
     let var_in : c.loop-var.var < length t.costs.low = omega (arith, c.loop-var-test.true, ap length c.as_slice-var-end.ensures) in
-    let constant_is = constant_read t c.requires.whole c.loop-var.var c.constant.result c.index.result.now var_in c.constant.ensures c.index.ensures in
+    let constant_is = constant_read t c.requires.tableau c.loop-var.var c.constant.result c.index.result.now var_in c.constant.ensures c.index.ensures in
     let read = below_read c.denominator-denominator.result c.constant.result.denominator
     c.denominator-denominator.ensures.value c.denominator-denominator.ensures.kept.denominator in
     subst (λ (z : ℤ). nat_abs z ≤ t.top) (sym (read ∙ ap (λ (q : Fraction). pos q.denominator) constant_is))
-    (denominator_within t c.requires.whole c.loop-var.var var_in)
+    (denominator_within t c.requires.tableau c.loop-var.var var_in)
 
 pub returns-in_err-multiple-clause-wide : goal.returns-in_err-multiple-clause-wide
 returns-in_err-multiple-clause-wide c =
     let p = err_from_is_err_and c.from_residual.result c.from_residual.ensures.1 in
     let t = c.args.self.now in
     let var_in : c.loop-var.var < length t.costs.low = omega (arith, c.loop-var-test.true, ap length c.as_slice-var-end.ensures) in
-    let constant_is = constant_read t c.requires.whole c.loop-var.var c.constant.result c.index.result.now var_in c.constant.ensures c.index.ensures in
+    let constant_is = constant_read t c.requires.tableau c.loop-var.var c.constant.result c.index.result.now var_in c.constant.ensures c.index.ensures in
     let read = below_read c.denominator-denominator.result c.constant.result.denominator
     c.denominator-denominator.ensures.value c.denominator-denominator.ensures.kept.denominator in
     rw (p.1, p.2)
-    (multiple_wide t c.requires.whole c.loop-var.var _ _ c.in_err-multiple.field-0.0 var_in c.loop-var.invariant.so_far
+    (multiple_wide t c.requires.tableau c.loop-var.var _ _ c.in_err-multiple.field-0.0 var_in c.loop-var.invariant.so_far
     (read ∙ ap (λ (q : Fraction). pos q.denominator) constant_is) c.in_err-multiple.ensures.wide.named
     (subst (IsPassing t.top) (sym c.in_err-multiple.ensures.wide.named) c.in_err-multiple.ensures.wide.passes))
 
@@ -58,13 +58,13 @@ pub loop-var-preserved : goal.loop-var-preserved
 loop-var-preserved c =
     let t = c.args.self.now in
     let var_in : c.loop-var.var < length t.costs.low = omega (arith, c.loop-var-test.true, ap length c.as_slice-var-end.ensures) in
-    let constant_is = constant_read t c.requires.whole c.loop-var.var c.constant.result c.index.result.now var_in c.constant.ensures c.index.ensures in
+    let constant_is = constant_read t c.requires.tableau c.loop-var.var c.constant.result c.index.result.now var_in c.constant.ensures c.index.ensures in
     let read = below_read c.denominator-denominator.result c.constant.result.denominator
     c.denominator-denominator.ensures.value c.denominator-denominator.ensures.kept.denominator in
     let small : nat_abs c.in_ok-multiple.multiple < 2 ^ 127 = omega (arith, c.in_ok-multiple.ensures.within, (top_bounds t.top c.value.ensures.width).1) in
     let back = read_back c.in_ok-multiple.multiple small in
     record {
-      so_far = back ∙ multiple_more t c.requires.whole c.loop-var.var _ _ c.in_ok-multiple.multiple var_in c.loop-var.invariant.so_far
+      so_far = back ∙ multiple_more t c.requires.tableau c.loop-var.var _ _ c.in_ok-multiple.multiple var_in c.loop-var.invariant.so_far
           (read ∙ ap (λ (q : Fraction). pos q.denominator) constant_is) c.in_ok-multiple.ensures.exact;
       within = subst (λ (z : ℤ). nat_abs z ≤ t.top) (sym back) c.in_ok-multiple.ensures.within;
     }
@@ -78,5 +78,5 @@ returns-clause-multiple c =
       arith,
       c.loop-var-test.false,
       ap length c.as_slice-var-end.ensures,
-      denominators_long t c.requires.whole,
+      denominators_long t c.requires.tableau,
     )))

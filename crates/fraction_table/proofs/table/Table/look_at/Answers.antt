@@ -9,6 +9,6 @@ entry-entry-requires c =
     omega (
       arith,
       ap length (line_read t c.args.line c.index.result.now c.index.ensures c.requires.line),
-      line_long t c.requires.whole c.args.line c.requires.line,
+      line_long t c.requires.tableau c.args.line c.requires.line,
       c.requires.column,
     )

@@ -11,23 +11,23 @@ whole_multipliers-requires c =
     record {
       parts =
           subst (λ (ps : List (ℕ × Fraction)). AreParts t.top ps) (sym (c.as_slice.ensures.value ∙ c.in_ok-fractions.ensures))
-          (are_parts t c.args.line (record { whole = c.requires.whole; line_in = c.requires.line; stuck = c.requires.stuck }));
+          (are_parts t c.args.line (record { tableau = c.requires.tableau; line_in = c.requires.line; refuting = c.requires.refuting }));
     }
 
 pub returns-clause-refutes : goal.returns-clause-refutes
 returns-clause-refutes c =
     made_refute c.args.self.now c.args.line c.as_slice.result.now c.whole_multipliers.result
-    (record { whole = c.requires.whole; line_in = c.requires.line; stuck = c.requires.stuck })
+    (record { tableau = c.requires.tableau; line_in = c.requires.line; refuting = c.requires.refuting })
     (c.as_slice.ensures.value ∙ c.in_ok-fractions.ensures) c.whole_multipliers.ensures.made c.whole_multipliers.ensures.small
 
 pub returns-clause-few : goal.returns-clause-few
 returns-clause-few c =
     made_few c.args.self.now c.args.line c.as_slice.result.now c.whole_multipliers.result
-    (record { whole = c.requires.whole; line_in = c.requires.line; stuck = c.requires.stuck })
+    (record { tableau = c.requires.tableau; line_in = c.requires.line; refuting = c.requires.refuting })
     (c.as_slice.ensures.value ∙ c.in_ok-fractions.ensures) c.whole_multipliers.ensures.made
 
 pub returns-clause-told : goal.returns-clause-told
 returns-clause-told c =
     made_told c.args.self.now c.args.line c.as_slice.result.now c.whole_multipliers.result
-    (record { whole = c.requires.whole; line_in = c.requires.line; stuck = c.requires.stuck })
+    (record { tableau = c.requires.tableau; line_in = c.requires.line; refuting = c.requires.refuting })
     (c.as_slice.ensures.value ∙ c.in_ok-fractions.ensures) c.whole_multipliers.ensures.wide

@@ -5,7 +5,7 @@ use Rattle.cost_base.specs.declared.StepName.TheVariants.{Div, Mul}
 use Rattle.whole_numbers.specs.Fractions.{Fraction, divided}
 use Rattle.wide_fraction.specs.declared.steps.Wide.{Wide}
 use Rattle.design_problem.specs.Basis.{entry}
-use Rattle.fraction_rows.specs.TableRows.{AreTableNumbers}
+use Rattle.fraction_lines.specs.TableLines.{AreTableNumbers}
 use Rattle.fraction_table.specs.Pivots.{line_at}
 use Rattle.fraction_table.proofs.Pivots.{line_long, line_read, lines_long, whole_line}
 use Rattle.fraction_table.proofs.Choices.{found_order, greater_ordered, less_ordered, level_more, level_ordered, multiple_wide, ratio_wide}
@@ -14,7 +14,7 @@ use Rattle.fraction_table.proofs.table.Table.precedes.Goals as goal
 
 -- the loop's place is one of the lines, and its line was read
 place_in : (c : After-index-in-loop-place) → c.loop-place.place < length c.args.self.now.lines.items
-place_in c = omega (arith, c.loop-place-test.true, ap length c.as_slice-place-end.ensures, lines_long c.args.self.now c.requires.whole)
+place_in c = omega (arith, c.loop-place-test.true, ap length c.as_slice-place-end.ensures, lines_long c.args.self.now c.requires.tableau)
 
 place_read : (c : After-index-in-loop-place) → c.index-in-loop-place.result.now ≡ line_at c.args.self.now c.loop-place.place
 place_read c =
@@ -25,13 +25,13 @@ entry_in : (c : After-index-in-loop-place) (k : ℕ) →
     (1 ≤ suc k) × (suc k ≤ length c.args.self.now.basis.items) → suc k < length c.index-in-loop-place.result.now
 entry_in c k k_in =
     let t = c.args.self.now in
-    omega (arith, ap length (place_read c), line_long t c.requires.whole c.loop-place.place (place_in c), k_in, c.requires.whole.unboxed.count)
+    omega (arith, ap length (place_read c), line_long t c.requires.tableau c.loop-place.place (place_in c), k_in, c.requires.tableau.unboxed.count)
 
 pub entry_quotient-requires-clause-numbers : goal.entry_quotient-requires-clause-numbers
 entry_quotient-requires-clause-numbers c =
     let t = c.args.self.now in
     subst (AreTableNumbers t.top) (sym (line_read t c.args.line c.index.result.now c.index.ensures c.requires.line))
-    (whole_line t c.requires.whole c.args.line c.requires.line).numbers
+    (whole_line t c.requires.tableau c.args.line c.requires.line).numbers
 
 pub returns-in_err-quotient-clause-wide : goal.returns-in_err-quotient-clause-wide
 returns-in_err-quotient-clause-wide c =
@@ -39,7 +39,7 @@ returns-in_err-quotient-clause-wide c =
     let t = c.args.self.now in
     let row_is = line_read t c.args.line c.index.result.now c.index.ensures c.requires.line in
     rw (p.1, p.2)
-    (ratio_wide t c.requires.whole c.args.line c.args.column c.args.other c.in_err-quotient.field-0.0 c.requires.line c.requires.column c.requires.other
+    (ratio_wide t c.requires.tableau c.args.line c.args.column c.args.other c.in_err-quotient.field-0.0 c.requires.line c.requires.column c.requires.other
     (c.in_err-quotient.ensures.named
     ∙ ap {B = Wide} (λ (row : List Fraction).
     record { step = Div; left = entry row (suc c.args.other); right = entry row (suc c.args.column) }) row_is)
@@ -48,7 +48,7 @@ returns-in_err-quotient-clause-wide c =
 pub index-requires-in-loop-place : goal.index-requires-in-loop-place
 index-requires-in-loop-place c =
     let t = c.args.self.now in
-    omega (arith, c.loop-place-test.true, ap length c.as_slice-place-end.ensures, lines_long t c.requires.whole, t.lines.ok.0)
+    omega (arith, c.loop-place-test.true, ap length c.as_slice-place-end.ensures, lines_long t c.requires.tableau, t.lines.ok.0)
 
 pub entry_order-requires-clause-column : goal.entry_order-requires-clause-column
 entry_order-requires-clause-column c =
@@ -62,7 +62,7 @@ pub entry_order-requires-clause-numbers : goal.entry_order-requires-clause-numbe
 entry_order-requires-clause-numbers c =
     let t = c.args.self.now in
     let at = (goal.at.entry_order-requires-clause-numbers c).After-index-in-loop-place in
-    subst (AreTableNumbers t.top) (sym (place_read at)) (whole_line t c.requires.whole c.loop-place.place (place_in at)).numbers
+    subst (AreTableNumbers t.top) (sym (place_read at)) (whole_line t c.requires.tableau c.loop-place.place (place_in at)).numbers
 
 pub returns-in_err-order-clause-wide : goal.returns-in_err-order-clause-wide
 returns-in_err-order-clause-wide c =
@@ -72,7 +72,7 @@ returns-in_err-order-clause-wide c =
     let at = (goal.at.returns-in_err-order-clause-wide c).After-index-in-loop-place in
     let row_is = line_read t c.args.line c.index.result.now c.index.ensures c.requires.line in
     rw (p.1, p.2)
-    (multiple_wide t c.requires.whole c.args.line c.args.column c.args.other c.loop-place.place q
+    (multiple_wide t c.requires.tableau c.args.line c.args.column c.args.other c.loop-place.place q
     c.in_err-order.field-0.0 c.requires.line c.requires.column c.requires.other (place_in at)
     (c.in_ok-quotient.ensures.exact
     ∙ ap {B = Fraction} (λ (row : List Fraction).

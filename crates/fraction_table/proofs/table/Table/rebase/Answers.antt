@@ -2,7 +2,7 @@
 use Rattle.std.proofs.Common.{ℕ, inl, inr, sym, subst, List, length}
 use Rattle.std.specs.Prelude.{All}
 use Rattle.design_problem.specs.declared.form.Form.{Form}
-use Rattle.design_problem.specs.declared.form.CostBox.{CostBox}
+use Rattle.design_problem.specs.declared.boxes.CostBox.{CostBox}
 use Rattle.design_problem.specs.Boxes.{IsBox}
 use Rattle.fraction_table.specs.Tableaus.{FitsBox, starting}
 use Rattle.fraction_table.proofs.Restarts.{held_is, moved_rebased}
@@ -12,7 +12,7 @@ use Rattle.fraction_table.proofs.table.Table.rebase.Goals as goal
 pub move_bounds-requires : goal.move_bounds-requires
 move_bounds-requires c =
     record {
-      unboxed = c.requires.whole.unboxed;
+      unboxed = c.requires.tableau.unboxed;
       room = c.requires.room;
       bounds = record { low_count = c.requires.ranges.low_count; high_count = c.requires.ranges.high_count };
     }
@@ -26,8 +26,8 @@ restart-requires c =
       fits = subst (λ (rows : List Form). All (FitsBox c.args.costs.now) rows) (sym keeps.rows) c.requires.fits;
     }
 
-pub returns-in-Ok-clause-whole : goal.returns-in-Ok-clause-whole
-returns-in-Ok-clause-whole c =
+pub returns-in-Ok-clause-tableau : goal.returns-in-Ok-clause-tableau
+returns-in-Ok-clause-tableau c =
     let keeps = c.move_bounds.ensures.keeps in
     let costs = c.args.costs.now in
     let same = c.in-Ok.ensures.moved.costs_are in

@@ -1,9 +1,9 @@
 -- The table starts anew.
 use Rattle.std.proofs.Common.{◌≡◌, ℕ, suc, ◌∙◌, ap, sym, subst, length, arith}
 use Rattle.std.proofs.lemmas.List.{with_items_is}
-use Rattle.design_problem.specs.declared.form.CostBox.{CostBox}
+use Rattle.design_problem.specs.declared.boxes.CostBox.{CostBox}
 use Rattle.design_problem.specs.Boxes.{IsBox}
-use Rattle.fraction_rows.specs.Turns.{AreTableRows}
+use Rattle.fraction_lines.specs.Turns.{AreTableLines}
 use Rattle.fraction_table.proofs.Restarts.{bounds_are, members_same, restarted, starting_many}
 use Rattle.fraction_table.proofs.table.Table.restart.Goals as goal
 
@@ -29,7 +29,7 @@ start_lines-requires c =
           record {
             high = ap length high_is ∙ c.requires.ranges.high_count ∙ sym low_long;
             basis = ap length basis_is ∙ counted ∙ s.basis ∙ sym low_long;
-            lines = subst (λ (n : ℕ). AreTableRows t.top (suc n) t.lines.items) (sym low_long) s.lines;
+            lines = subst (λ (n : ℕ). AreTableLines t.top (suc n) t.lines.items) (sym low_long) s.lines;
             many = s.many ∙ members_same t.costs
                 (record { low = c.put_bounds.new.bounds; high = c.put_bounds-2.new.bounds }) (length t.rows.items)
                 (sym low_long);
@@ -58,8 +58,8 @@ returns-clause-basis c =
     let basis_is = with_items_is t.basis c.put_start.new.basis (omega (arith, counted, t.basis.ok.0)) in
     ap (λ basis. basis.items) c.start_lines.ensures.keeps.basis ∙ basis_is ∙ c.put_start.ensures
 
-pub returns-clause-whole : goal.returns-clause-whole
-returns-clause-whole c =
+pub returns-clause-tableau : goal.returns-clause-tableau
+returns-clause-tableau c =
     let t = c.args.self.now in
     let costs = c.args.costs.now in
     let counted : length c.put_start.new.basis ≡ length t.basis.items = ap length c.put_start.ensures

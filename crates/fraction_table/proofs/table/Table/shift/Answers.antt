@@ -6,10 +6,10 @@ use Rattle.std.proofs.lemmas.List.{with_items_is}
 use Rattle.std.proofs.lemmas.Result.{err_from_is_err_and}
 use Rattle.whole_numbers.specs.Fractions.{Fraction, whole}
 use Rattle.design_problem.specs.declared.tree.Member.{Member}
-use Rattle.fraction_rows.specs.TableRows.{IsTableNumber}
-use Rattle.fraction_rows.specs.Turns.{AreTableRows}
+use Rattle.fraction_lines.specs.TableLines.{IsTableNumber}
+use Rattle.fraction_lines.specs.Turns.{AreTableLines}
 use Rattle.fraction_table.specs.Moves.{IsColumnOf, ShiftsWide, shifted_lines}
-use Rattle.fraction_rows.proofs.SmallNumbers.{whole_number}
+use Rattle.fraction_lines.proofs.SmallNumbers.{whole_number}
 use Rattle.fraction_table.proofs.MoveLines.{column_in, column_there, length-put}
 use Rattle.fraction_table.proofs.table.Table.shift.Goals.{After-shift_lines}
 use Rattle.fraction_table.proofs.table.Table.shift.Goals as goal
@@ -25,7 +25,7 @@ shift_lines-requires-clause-lines c =
       omega arith,
       column_in c.as_slice.result.now c.args.before c.column_of-column.result n c.column_of-column.ensures
           (ap length c.as_slice.ensures.value ∙ c.requires.shape.basis),
-      subst (AreTableRows t.top (suc n)) (sym c.as_mut_slice.ensures.value) c.requires.shape.lines,
+      subst (AreTableLines t.top (suc n)) (sym c.as_mut_slice.ensures.value) c.requires.shape.lines,
     )
 
 pub shift_lines-requires-clause-fall : goal.shift_lines-requires-clause-fall
@@ -50,14 +50,14 @@ lines_kept c =
     with_items_is t.lines c.shift_lines.new.lines (omega (arith, same, t.lines.ok.0))
 
 lines_numbers : (c : After-shift_lines) →
-    AreTableRows c.args.self.now.top (suc (length c.args.self.now.costs.low))
+    AreTableLines c.args.self.now.top (suc (length c.args.self.now.costs.low))
     (with_items c.args.self.now.lines c.shift_lines.new.lines).items
 lines_numbers c =
     let t = c.args.self.now in
     let count = suc (length t.costs.low) in
-    subst (AreTableRows t.top count) (sym (lines_kept c))
+    subst (AreTableLines t.top count) (sym (lines_kept c))
     (c.shift_lines.ensures.numbers count
-    (subst (AreTableRows t.top count) (sym c.as_mut_slice.ensures.value) c.requires.shape.lines))
+    (subst (AreTableLines t.top count) (sym c.as_mut_slice.ensures.value) c.requires.shape.lines))
 
 pub returns-in_err-shift_lines-clause-shape : goal.returns-in_err-shift_lines-clause-shape
 returns-in_err-shift_lines-clause-shape c =

@@ -4,7 +4,7 @@ use Rattle.std.specs.Prelude.{All, slice_set}
 use Rattle.std.proofs.lemmas.List.{length-set}
 use Rattle.whole_numbers.specs.Fractions.{Fraction}
 use Rattle.design_problem.specs.declared.form.Form.{Form}
-use Rattle.design_problem.specs.declared.form.CostBox.{CostBox}
+use Rattle.design_problem.specs.declared.boxes.CostBox.{CostBox}
 use Rattle.design_problem.specs.declared.tree.Member.{Member}
 use Rattle.design_problem.specs.declared.tree.Member.TheVariants.{Low}
 use Rattle.design_problem.specs.Basis.{IsFormOf}
@@ -12,7 +12,7 @@ use Rattle.design_problem.specs.Boxes.{IsBox}
 use Rattle.fraction_table.specs.ValidTables.{members_of_box, starting_line}
 use Rattle.fraction_table.specs.Tableaus.{FitsBox}
 use Rattle.fraction_table.specs.Pivots.{member_at}
-use Rattle.fraction_rows.proofs.RowLaws.{rows_at, rows_set}
+use Rattle.fraction_lines.proofs.TableLineLaws.{lines_at, lines_set}
 use Rattle.fraction_table.proofs.StartingTables.{members_are}
 use Rattle.fraction_table.proofs.Restarts.{line_long}
 use Rattle.fraction_table.proofs.table.Table.start_line.Goals as goal
@@ -31,7 +31,7 @@ put_line-requires c =
     let costs = c.args.costs.now in
     let line_in : c.args.line < length (members_of_box t.costs (length t.rows.items)) = omega (arith, c.requires.line, c.requires.shape.many) in
     let form : IsFormOf t.costs t.rows.items (member_at t c.args.line) = members_are t.costs t.rows.items c.args.line (Low 0 0) line_in in
-    let here = rows_at t.top (suc (length t.costs.low)) t.lines.items c.args.line c.index_mut.result.now c.requires.shape.lines c.requires.line in
+    let here = lines_at t.top (suc (length t.costs.low)) t.lines.items c.args.line c.index_mut.result.now c.requires.shape.lines c.requires.line in
     record {
       form =
           subst (λ (rows : List Form). IsFormOf costs rows c.member_at-member.result) (sym c.as_slice-rows.ensures.value)
@@ -67,7 +67,7 @@ returns-clause-shape c =
     record {
       high = s.high;
       basis = s.basis;
-      lines = rows_set t.top (suc (length t.costs.low)) t.lines.items c.args.line c.put_line.new.line s.lines long c.put_line.ensures.numbers;
+      lines = lines_set t.top (suc (length t.costs.low)) t.lines.items c.args.line c.put_line.new.line s.lines long c.put_line.ensures.numbers;
       many = length-set t.lines.items c.args.line c.put_line.new.line ∙ s.many;
       room = record { few = s.room.few; quotients = s.room.quotients; scratch = s.room.scratch };
     }

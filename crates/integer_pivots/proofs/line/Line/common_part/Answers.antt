@@ -12,7 +12,8 @@ use Rattle.integer_pivots.proofs.line.Line.common_part.Goals.{Then-part-eq1, Aft
 pub loop-column-init : goal.loop-column-init
 loop-column-init c =
     let line = c.args.self.now in
-    let common = common_passed line 0 c.next-column.result (read c.common_with-part.result) (common_first line (read c.common_with-part.result) c.requires.positive
+    let common = common_passed line 0 c.next-column.result (read c.common_with-part.result)
+    (common_first line (read c.common_with-part.result) c.requires.positive
     (read_known c.common_with-part.result c.common_with-part.type_inv ∙ c.common_with-part.ensures.value
     ∙ ap₂ (λ (y z : ℤ). pos (gcd (nat_abs y) (nat_abs z)))
     (read_number line.constant (omega (arith, c.requires.constant)))

@@ -5,10 +5,11 @@ use Prim.Native.Nat.{◌∣◌}
 use Rattle.integer_pivots.specs.Turns.{turned_entry}
 use Rattle.integer_pivots.proofs.FailedTests.{failed, never}
 use Rattle.integer_pivots.proofs.Sizes.{read, read_known, read_number}
-use Rattle.integer_pivots.proofs.LowestSteps.{line_number, part_small, ratio_small, turn_sizes}
+use Rattle.integer_pivots.proofs.LowestSteps.{part_small, ratio_small, turn_sizes}
 use Rattle.integer_pivots.proofs.WrittenPlaces.{all_more}
 use Rattle.integer_pivots.proofs.line.Line.is_small_at.Goals as goal
 use Rattle.integer_pivots.proofs.line.Line.is_small_at.Goals.{Start, In-loop-c, After-over}
+use Rattle.integer_pivots.proofs.LineReads.{number_small}
 
 sizes : (c : Start) → (nat_abs c.args.turn.multiplier ≤ 2 ^ 30) × (nat_abs c.args.turn.factor ≤ 2 ^ 30) × (pos 0 <ℤ c.args.turn.multiplier)
 sizes c = turn_sizes c.args.turn c.args.column c.args.entering.now c.args.self.now c.requires.pivot c.requires.turn
@@ -32,7 +33,7 @@ pub turned_entry-number-requires-clause-across : goal.turned_entry-number-requir
 turned_entry-number-requires-clause-across c = omega (arith, ap length c.as_slice-c-end.ensures, c.loop-c-test.true, c.requires.pivot.long)
 
 pub turned_entry-number-requires-clause-small : goal.turned_entry-number-requires-clause-small
-turned_entry-number-requires-clause-small c = line_number c.args.self.now c.loop-c.c c.requires.pivot.turning
+turned_entry-number-requires-clause-small c = number_small c.args.self.now c.requires.pivot.turning c.loop-c.c
 
 pub turned_entry-number-requires-clause-entering : goal.turned_entry-number-requires-clause-entering
 turned_entry-number-requires-clause-entering c = c.requires.pivot.across

@@ -6,10 +6,10 @@ use Rattle.std.proofs.lemmas.Int.{unsigned_abs-mul}
 use Rattle.integer_pivots.specs.Turns.{IsPartAfter}
 use Rattle.integer_pivots.proofs.Sizes.{product_read, read, read_known}
 use Rattle.integer_pivots.proofs.TurnLaws.{product_fits, product_of_read}
-use Rattle.integer_pivots.proofs.TurnedLines.{product_high}
 use Rattle.integer_pivots.proofs.LowestSteps.{line_denominator, over_high, turn_sizes, wide_divides, wide_times}
 use Rattle.integer_pivots.proofs.line.Line.lowest_after.Goals as goal
 use Rattle.integer_pivots.proofs.line.Line.lowest_after.Goals.{Start, After-part_after-part}
+use Rattle.integer_pivots.proofs.ShareLaws.{times_positive}
 
 sizes : (c : Start) → (nat_abs c.args.turn.multiplier ≤ 2 ^ 30) × (nat_abs c.args.turn.factor ≤ 2 ^ 30) × (pos 0 <ℤ c.args.turn.multiplier)
 sizes c = turn_sizes c.args.turn c.args.column c.args.entering.now c.args.self.now c.requires.pivot c.requires.turn
@@ -70,7 +70,7 @@ returns-clause-lowest c =
     let is = denominator_is p.Start in
     let part = c.part_after-part.ensures in
     let high = subst (λ (z : ℤ). pos 0 <ℤ z) (sym is)
-    (product_high c.args.self.now.denominator c.args.turn.multiplier l.positive (sizes p.Start).2) in
+    (times_positive c.args.self.now.denominator c.args.turn.multiplier l.positive (sizes p.Start).2) in
     let over = read_known c.over.result c.over.type_inv in
     record {
       part = subst (IsPartAfter c.args.turn c.args.column c.args.entering.now c.args.self.now) (sym (part_is p.After-part_after-part)) part;

@@ -9,9 +9,10 @@ use Rattle.whole_numbers.proofs.Sizes.{size_positive}
 use Rattle.integer_pivots.specs.Turns.{turned_number}
 use Rattle.integer_pivots.proofs.Sizes.{product_read, read, read_known}
 use Rattle.integer_pivots.proofs.TurnLaws.{product_of_read}
-use Rattle.integer_pivots.proofs.LowestSteps.{first_small, line_denominator, line_number, part_all, part_first, part_more, turn_sizes}
+use Rattle.integer_pivots.proofs.LowestSteps.{first_small, line_denominator, part_all, part_first, part_more, turn_sizes}
 use Rattle.integer_pivots.proofs.line.Line.part_after.Goals as goal
 use Rattle.integer_pivots.proofs.line.Line.part_after.Goals.{Start, After-greatest_common_divisor-part}
+use Rattle.integer_pivots.proofs.LineReads.{number_small}
 
 sizes : (c : Start) → (nat_abs c.args.turn.multiplier ≤ 2 ^ 30) × (nat_abs c.args.turn.factor ≤ 2 ^ 30) × (pos 0 <ℤ c.args.turn.multiplier)
 sizes c = turn_sizes c.args.turn c.args.column c.args.entering.now c.args.self.now c.requires.pivot c.requires.turn
@@ -74,7 +75,7 @@ pub turned_entry-requires-clause-across : goal.turned_entry-requires-clause-acro
 turned_entry-requires-clause-across c = omega (arith, ap length c.as_slice-c-end.ensures, c.loop-c-test.true, c.requires.pivot.long)
 
 pub turned_entry-requires-clause-small : goal.turned_entry-requires-clause-small
-turned_entry-requires-clause-small c = line_number c.args.self.now c.loop-c.c c.requires.pivot.turning
+turned_entry-requires-clause-small c = number_small c.args.self.now c.requires.pivot.turning c.loop-c.c
 
 pub turned_entry-requires-clause-entering : goal.turned_entry-requires-clause-entering
 turned_entry-requires-clause-entering c = c.requires.pivot.across

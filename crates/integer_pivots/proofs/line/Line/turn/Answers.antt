@@ -10,7 +10,7 @@ use Rattle.whole_numbers.specs.Lists.{number_at}
 use Rattle.whole_numbers.proofs.FractionLaws.{product_positive}
 use Rattle.whole_numbers.proofs.Sizes.{size_positive}
 use Rattle.integer_pivots.specs.declared.line.Line.{Line}
-use Rattle.integer_pivots.specs.declared.turn.Turn.{Turn}
+use Rattle.integer_pivots.specs.declared.turned_line.Turn.{Turn}
 use Rattle.integer_pivots.specs.Numbers.{AllWithin, greatest_of}
 use Rattle.integer_pivots.specs.Turns.{IsTurning, turned_number}
 use Rattle.integer_pivots.proofs.Sizes.{number_within, positive_size, product_read, read, read_known, read_number, size_of, small_read}

@@ -108,8 +108,10 @@ turned c =
     let q = read c.over.result in
     record {
       positive = c.turn_over-part.ensures.reciprocal.positive;
-      denominator = ap (λ (z : ℤ). z *ℤ part) (read_known c.over-self.result c.over-self.type_inv) ∙ c.over-self.ensures ∙ denominator_read turn column entering old t;
-      constant = ap (λ (z : ℤ). z *ℤ part) (read_known c.over-self-2.result c.over-self-2.type_inv) ∙ c.over-self-2.ensures ∙ constant_read turn column entering old t;
+      denominator = ap (λ (z : ℤ). z *ℤ part) (read_known c.over-self.result c.over-self.type_inv) ∙ c.over-self.ensures ∙
+          denominator_read turn column entering old t;
+      constant = ap (λ (z : ℤ). z *ℤ part) (read_known c.over-self-2.result c.over-self-2.type_inv) ∙ c.over-self-2.ensures ∙
+          constant_read turn column entering old t;
       count = ap length c.set.ensures ∙ length-set mids column q ∙ c.turn_over-part.ensures.count;
       others = λ k k_in apart.
           ap (λ (z : ℤ). z *ℤ part) (ap (λ (zs : List ℤ). number_at zs k) c.set.ensures ∙ get_or-set_other mids column k q (pos 0) apart)

@@ -8,10 +8,11 @@ use Rattle.integer_pivots.specs.Numbers.{AllWithin}
 use Rattle.integer_pivots.specs.Turns.{turned_entry}
 use Rattle.integer_pivots.proofs.Sizes.{positive_size, read, read_known, read_number, wider}
 use Rattle.integer_pivots.proofs.TurnLaws.{wide, wide_number}
-use Rattle.integer_pivots.proofs.LowestSteps.{IsOverPart, after_same, line_number, part_small, turn_sizes, turned_to, written_small}
+use Rattle.integer_pivots.proofs.LowestSteps.{IsOverPart, after_same, part_small, turn_sizes, turned_to, written_small}
 use Rattle.integer_pivots.proofs.WrittenPlaces.{AreWritten, none_written, one_written}
 use Rattle.integer_pivots.proofs.line.Line.turn_to.Goals as goal
 use Rattle.integer_pivots.proofs.line.Line.turn_to.Goals.{Start, In-loop-c, After-turned_entry-number, After-as_slice, After-loop-c}
+use Rattle.integer_pivots.proofs.LineReads.{number_small}
 
 sizes : (c : Start) → (nat_abs c.args.turn.multiplier ≤ 2 ^ 30) × (nat_abs c.args.turn.factor ≤ 2 ^ 30) × (pos 0 <ℤ c.args.turn.multiplier)
 sizes c = turn_sizes c.args.turn c.args.column c.args.entering.now c.args.self.now c.requires.pivot c.requires.turn
@@ -55,7 +56,7 @@ turned_entry-number-requires-clause-across c = omega (arith, ap length c.as_slic
 pub turned_entry-number-requires-clause-small : goal.turned_entry-number-requires-clause-small
 turned_entry-number-requires-clause-small c =
     subst (λ (z : ℤ). nat_abs z ≤ 2 ^ 30) (sym (here (goal.at.turned_entry-number-requires-clause-small c).In-loop-c))
-    (line_number c.args.self.now c.loop-c.c c.requires.pivot.turning)
+    (number_small c.args.self.now c.requires.pivot.turning c.loop-c.c)
 
 pub turned_entry-number-requires-clause-entering : goal.turned_entry-number-requires-clause-entering
 turned_entry-number-requires-clause-entering c = c.requires.pivot.across

@@ -6,7 +6,8 @@ use Rattle.whole_numbers.specs.Lists.{number_at}
 use Rattle.integer_pivots.specs.Turns.{turned_number}
 use Rattle.integer_pivots.proofs.Sizes.{product_read}
 use Rattle.integer_pivots.proofs.TurnLaws.{product_of_read}
-use Rattle.integer_pivots.proofs.LowestSteps.{after_fits, after_other, after_own, after_read, after_read_small, line_denominator, line_number, number_same, own_read_small}
+use Rattle.integer_pivots.proofs.LowestSteps.{after_fits, after_other, after_own, after_read, after_read_small, line_denominator, number_same, own_read_small}
+use Rattle.integer_pivots.proofs.LineReads.{number_small}
 use Rattle.integer_pivots.proofs.line.Line.turned_entry.Goals as goal
 
 pub overflow_mul-result : goal.overflow_mul-result
@@ -31,7 +32,7 @@ pub overflow_mul-result-3 : goal.overflow_mul-result-3
 overflow_mul-result-3 c =
     product_of_read c.args.turn.factor (number_at c.as_slice-2.result.now c.args.column) c.requires.factor
     (number_same c.as_slice-2.result.now c.args.entering.now.numbers c.args.column c.as_slice-2.ensures
-    (line_number c.args.entering.now c.args.column c.requires.entering))
+    (number_small c.args.entering.now c.requires.entering c.args.column))
 
 pub overflow_sub-result : goal.overflow_sub-result
 overflow_sub-result c =
@@ -39,7 +40,7 @@ overflow_sub-result c =
     (number_at c.as_slice-2.result.now c.args.column) c.requires.multiplier c.requires.factor
     (number_same c.as_slice.result.now c.args.self.now.numbers c.args.column c.as_slice.ensures c.requires.small)
     (number_same c.as_slice-2.result.now c.args.entering.now.numbers c.args.column c.as_slice-2.ensures
-    (line_number c.args.entering.now c.args.column c.requires.entering))
+    (number_small c.args.entering.now c.requires.entering c.args.column))
 
 pub returns-clause-value : goal.returns-clause-value
 returns-clause-value c =
@@ -47,7 +48,7 @@ returns-clause-value c =
     (number_at c.as_slice-2.result.now c.args.column) c.requires.multiplier c.requires.factor
     (number_same c.as_slice.result.now c.args.self.now.numbers c.args.column c.as_slice.ensures c.requires.small)
     (number_same c.as_slice-2.result.now c.args.entering.now.numbers c.args.column c.as_slice-2.ensures
-    (line_number c.args.entering.now c.args.column c.requires.entering))
+    (number_small c.args.entering.now c.requires.entering c.args.column))
     ∙ ap₂ (λ (xs ys : List ℤ). turned_number c.args.turn (number_at xs c.args.column) (number_at ys c.args.column))
     c.as_slice.ensures c.as_slice-2.ensures
     ∙ sym (after_other c.args.turn c.args.pivots c.args.entering.now c.args.self.now c.args.column c.if-column-pivots.false)
@@ -58,4 +59,4 @@ returns-clause-size c =
     (number_at c.as_slice-2.result.now c.args.column) c.requires.multiplier c.requires.factor
     (number_same c.as_slice.result.now c.args.self.now.numbers c.args.column c.as_slice.ensures c.requires.small)
     (number_same c.as_slice-2.result.now c.args.entering.now.numbers c.args.column c.as_slice-2.ensures
-    (line_number c.args.entering.now c.args.column c.requires.entering))
+    (number_small c.args.entering.now c.requires.entering c.args.column))

@@ -8,4 +8,5 @@ pub invariant_of-self : goal.invariant_of-self
 invariant_of-self c =
     stays_marked c.self.inside.numbers.items c.self.inside.marks.items c.put_mark.new.marks.items c.args.column _ _
     c.self.invariant c.put_mark.ensures.count
-    (subst (λ (xs : List ℤ). c.args.column < length xs) (sym c.self.view_is) c.requires) (λ none. let zero : of_z w64 c.args.number ≡ 0 = grind (arith, none) in ap (to_z w64) zero) c.put_mark.ensures.own c.put_mark.ensures.others
+    (subst (λ (xs : List ℤ). c.args.column < length xs) (sym c.self.view_is) c.requires) (λ none. let zero : of_z w64 c.args.number ≡ 0 = grind (arith, none) in
+    ap (to_z w64) zero) c.put_mark.ensures.own c.put_mark.ensures.others

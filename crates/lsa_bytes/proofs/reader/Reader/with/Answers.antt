@@ -13,7 +13,8 @@ invariant_of-result c =
     let before = c.self.inside.lsas.items in
     let lsa = c.args.lsa in
     let room : (is_router_lsa lsa && nat_le 1000 (count_by is_router_lsa before)) ≡ false =
-    ap (λ (lsas : List Lsa). is_router_lsa lsa && nat_le 1000 (count_by is_router_lsa lsas)) c.self.view_is ∙ sym c.has_no_room.ensures ∙ c.if-has_no_room.false in
+    ap (λ (lsas : List Lsa). is_router_lsa lsa && nat_le 1000 (count_by is_router_lsa lsas)) c.self.view_is ∙ sym c.has_no_room.ensures ∙
+    c.if-has_no_room.false in
     let new : list_any (is_same lsa) before ≡ false = not-true _ (sym (c.in_ok-add.ensures.new before c.self.invariant.seen) ∙ c.if-not-branch.false) in
     record {
       seen = subst (HasSeen c.add.new.self) (sym c.in_ok-push.ensures.items) (c.in_ok-add.ensures.added before c.self.invariant.seen c.if-not-branch.false);

@@ -19,7 +19,7 @@ graph-requires-clause-priced c =
     let a = c.args.self.now.choices.now.asked in
     let d = c.args.self.now.choices.now.database in
     subst (λ (prices : List Price). All IsLinkPrice prices) (sym (c.as_slice.ensures.value ∙ c.in_ok-prices.ensures))
-    (prices_link a d 0 d.links c.requests-requests.ensures.asked c.links-links.ensures.base.each_link c.requires)
+    (prices_link a d 0 d.links c.request_file-request_file.ensures.asked c.links-links.ensures.base.each_link c.requires)
 
 pub returns : goal.returns
 returns c =

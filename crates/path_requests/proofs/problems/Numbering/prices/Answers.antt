@@ -2,8 +2,9 @@
 use Rattle.std.proofs.Common.{◌≡◌, ◌∙◌, ◌<◌, ◌+◌, ap, sym, arith, List, [], ◌∷◌, length, get_or, drop}
 use Rattle.area_graph.specs.declared.Price.{Price}
 use Rattle.lsdb_build.specs.declared.Linked.{Linked}
+use Rattle.wanted_paths.proofs.LoopSteps.{added}
 use Rattle.path_requests.specs.Meaning.{prices_from}
-use Rattle.path_requests.proofs.LinkSteps.{link_there, added}
+use Rattle.path_requests.proofs.LinkSteps.{link_there}
 use Rattle.path_requests.proofs.problems.Numbering.prices.Goals as goal
 
 pub price_of-price-requires : goal.price_of-price-requires

@@ -3,8 +3,9 @@ use Rattle.std.proofs.Common.{◌≡◌, ◌∙◌, ◌<◌, ◌+◌, refl, ap, 
 use Rattle.std.specs.Prelude.{slice_index_or}
 use Rattle.design_problem.specs.declared.problem.VarName.{VarName}
 use Rattle.lsdb_build.specs.declared.Linked.{Linked}
+use Rattle.wanted_paths.proofs.LoopSteps.{added}
 use Rattle.path_requests.specs.Meaning.{range_of, is_free, variable_of, names_from}
-use Rattle.path_requests.proofs.LinkSteps.{link_there, added}
+use Rattle.path_requests.proofs.LinkSteps.{link_there}
 use Rattle.path_requests.proofs.problems.Numbering.var_names.Goals as goal
 
 pub push_name-requires : goal.push_name-requires

@@ -28,8 +28,8 @@ pub loop-next-preserved : goal.loop-next-preserved
 loop-next-preserved c =
     route_more (c.args.first.now ∷ to_without (words c.args.text.now)) c.loop-next.word.now c.in-Some.next.now
     (to_without (words c.loop-next.left.now)) (to_without (words c.in-Some.rest.now))
-    c.loop-next.hops.items c.add_hop.new.hops.items c.in-Some-2.hop
-    c.loop-next.invariant c.in-Some.ensures (sym c.in-Some-2.is ∙ c.in_ok-hop.ensures) c.in_ok-add_hop.ensures
+    c.loop-next.hops.items c.push_last.new.things.items c.in-Some-2.hop
+    c.loop-next.invariant c.in-Some.ensures (sym c.in-Some-2.is ∙ c.in_ok-hop.ensures) c.in_ok-push_last.ensures.added
 
 pub returns-in_default-2 : goal.returns-in_default-2
 returns-in_default-2 c =

@@ -22,7 +22,7 @@ loop-place-preserved c =
     record {
       asker = asker_kept g requests c.prepare-ready.new.self c.rival_at.new.self c.rival_at.ensures.same c.prepare-ready.ensures.asker;
       order = still;
-      shared = shared_kept _ c.prepare-ready.new.self.room c.rival_at.new.self.room c.prepare-ready.result
+      shared = shared_kept g p c.prepare-ready.new.self.room c.rival_at.new.self.room c.prepare-ready.result
           (ap (λ (a : Asking). a.room) c.rival_at.ensures.same) c.prepare-ready.ensures.ready.shares;
       count = ap length c.tell.ensures ∙ length-set olds number c.in_ok-rival.rival ∙ c.loop-place.invariant.count;
       told = λ i i_in.

@@ -7,7 +7,7 @@ abbrev pub invariant-loop-place : goal.invariant-loop-place
 invariant-loop-place l = record {
   asker : IsAskerFor l.graph l.requests l.self;
   order : l.self.order ≡ l.fn.self.order;
-  shared : MayShare l.survey l.self.room l.shared;
+  shared : MayShare l.graph l.point l.self.room l.shared;
   count : length l.rivals.items ≡ length l.requests;
   told : (i : ℕ) → i < l.place → IsCheapestIfAny l.graph l.point (request_at l.requests (slice_index l.fn.self.order i))
       (get_or l.rivals.items (slice_index l.fn.self.order i) None);

@@ -61,7 +61,7 @@ loop-number-preserved c =
     c.loop-number.invariant c.requires.count c.loop-number-test.true refl
     (subst (λ (ms : List ℕ). is_out_of_place requests taken ms n ≡ false) c.as_slice.ensures.value c.in-Some.ensures.found.1) unseen in
     let added = c.in_ok-see.ensures.added (c.if-not-branch.false) ∙ ap (λ (r : Request). edges ++ r.path.edges ∷ []) c.in-Some.ensures.found.0 in
-    rw (c.in_ok-add_member.ensures, added) more
+    rw (c.in_ok-push_last.ensures.added, added) more
 
 pub returns-clause-made : goal.returns-clause-made
 returns-clause-made c =

@@ -3,7 +3,7 @@ use Rattle.std.specs.BinaryHeap.{heap_capacity}
 use Rattle.std.specs.Prelude.{IsOk, OnOk, Result, Ok, Err}
 use Rattle.std.proofs.lemmas.List.{length-map}
 use Rattle.std.proofs.lemmas.List.Sorted.{IsPermutation-map}
-use Rattle.spf_ties.specs.declared.heap.Entry.{Entry}
+use Rattle.spf_ties.specs.declared.heap.WaitingVertex.{WaitingVertex}
 use Rattle.spf_ties.proofs.heap.Heap.push.Goals as goal
 
 -- what holds where a call succeeds, and it does
@@ -20,4 +20,5 @@ returns-clause-entries c =
     c.self.inside.entries.data.ok.0 in omega arith in
     let done = succeeded c.push.result _ (c.push.ensures.succeeds short) c.push.ensures.permutation in
     let moved = IsPermutation-map (λ r. r.0) _ _ done in
-    subst (λ (old : List Entry). IsPermutation (c.args.entry ∷ old) (map (λ r. r.0) (heap_items c.push.new.self))) (ap (λ w. w.entries) c.self.view_is) moved
+    subst (λ (old : List WaitingVertex). IsPermutation (c.args.entry ∷ old) (map (λ r. r.0) (heap_items c.push.new.self))) (ap (λ w. w.entries) c.self.view_is)
+    moved

@@ -7,7 +7,8 @@ use Rattle.spf_ties.proofs.room.Room.distances_within.Goals as goal
 pub returns-clause-least : goal.returns-clause-least
 returns-clause-least c = λ v start.
     let near = c.min-self-inside.result in
-    let d = numbers_in_use c.find_in_either-self-inside.result c.find_in_either-self-inside.new.front.numbers.items c.find_in_either-self-inside.new.wide.items in
+    let d = numbers_in_use c.find_in_either-self-inside.result c.find_in_either-self-inside.new.front.numbers.items c.find_in_either-self-inside.new.wide.items
+    in
     let count = length_either c.find_in_either-self-inside.result c.find_in_either-self-inside.new.front.numbers.items
     c.find_in_either-self-inside.new.wide.items (length c.args.graph.now.vertices)
     c.find_in_either-self-inside.ensures.front.count c.find_in_either-self-inside.ensures.wide in
@@ -19,7 +20,8 @@ returns-clause-least c = λ v start.
 pub returns-clause-tight : goal.returns-clause-tight
 returns-clause-tight c = λ v path is less.
     let near = c.min-self-inside.result in
-    let d = numbers_in_use c.find_in_either-self-inside.result c.find_in_either-self-inside.new.front.numbers.items c.find_in_either-self-inside.new.wide.items in
+    let d = numbers_in_use c.find_in_either-self-inside.result c.find_in_either-self-inside.new.front.numbers.items c.find_in_either-self-inside.new.wide.items
+    in
     let count = length_either c.find_in_either-self-inside.result c.find_in_either-self-inside.new.front.numbers.items
     c.find_in_either-self-inside.new.wide.items (length c.args.graph.now.vertices)
     c.find_in_either-self-inside.ensures.front.count c.find_in_either-self-inside.ensures.wide in

@@ -1,10 +1,10 @@
 use Rattle.std.proofs.Common.{rules, ◌≡◌, ◌<◌, ℕ, List, Option, None, ◌∙◌, ap, sym, subst, inl, inr, get_or, length, slice_index, arith}
 use Rattle.std.proofs.lemmas.Bool.{cases_lt}
 use Rattle.std.proofs.lemmas.List.{length-set}
-use Rattle.rival_separation.proofs.AskerLemmas.{order_reaches, told_there}
+use Rattle.rival_separation.proofs.AskerLemmas.{order_reaches, shared_kept, told_there}
 use Rattle.spread_sets.specs.SetAskers.{IsOutsiderIfAny, SetAsking, member_set_at, no_member_set}
 use Rattle.spread_sets.specs.Spreads.{AreTied}
-use Rattle.spread_sets.proofs.SetAskerLaws.{asker_kept, reach_kept}
+use Rattle.spread_sets.proofs.SetAskerLaws.{asker_kept, told_of_sets}
 use Rattle.spread_sets.proofs.set_asker.SetAsker.cheap_outsiders.Goals as goal
 
 pub outsider_at-requires-clause-tied : goal.outsider_at-requires-clause-tied
@@ -33,8 +33,8 @@ loop-place-preserved c =
     record {
       asker = asker_kept p sets c.prepare-ready.new.self c.outsider_at.new.self c.outsider_at.ensures.same c.prepare-ready.ensures.asker;
       order = still;
-      reach = reach_kept _ c.prepare-ready.new.self.room c.outsider_at.new.self.room c.prepare-ready.result
-          (ap (λ (a : SetAsking). a.room) c.outsider_at.ensures.same) c.prepare-ready.ensures.ready.reaches;
+      shared = shared_kept p.graph point c.prepare-ready.new.self.room c.outsider_at.new.self.room c.prepare-ready.result
+          (ap (λ (a : SetAsking). a.room) c.outsider_at.ensures.same) c.prepare-ready.ensures.ready.shares;
       count = ap length c.tell.ensures ∙ length-set olds number c.in_ok-outsider.outsider ∙ c.loop-place.invariant.count;
       told = λ i i_in.
           let k = slice_index order i in
@@ -51,13 +51,11 @@ loop-place-preserved c =
 
 pub returns-clause-outsiders : goal.returns-clause-outsiders
 returns-clause-outsiders c =
-    record {
-      count = c.loop-place.invariant.count;
-      each = order_reaches c.args.self.now.order (length c.args.sets.now) c.loop-place.place c.requires.asker.each
-          (let count = c.places-place-end.ensures in let past = c.loop-place-test.false in omega arith)
-          (λ k. IsOutsiderIfAny c.args.problem.now c.args.point.now (member_set_at c.args.sets.now k).members
-          (get_or c.loop-place.outsiders.items k None)) c.loop-place.invariant.told;
-    }
+    told_of_sets c.args.problem.now c.args.point.now c.args.sets.now c.loop-place.outsiders.items c.loop-place.invariant.count
+    (order_reaches c.args.self.now.order (length c.args.sets.now) c.loop-place.place c.requires.asker.each
+    (let count = c.places-place-end.ensures in let past = c.loop-place-test.false in omega arith)
+    (λ k. IsOutsiderIfAny c.args.problem.now c.args.point.now (member_set_at c.args.sets.now k).members
+    (get_or c.loop-place.outsiders.items k None)) c.loop-place.invariant.told)
 
 pub returns-in_err-outsider-clause-asker : goal.returns-in_err-outsider-clause-asker
 returns-in_err-outsider-clause-asker c =

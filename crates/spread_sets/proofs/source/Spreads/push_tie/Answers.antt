@@ -11,7 +11,7 @@ pub form_of_tie-requires-clause-second : goal.form_of_tie-requires-clause-second
 form_of_tie-requires-clause-second g c =
     let s = c.args.self.now in
     let set = set_at s.sets c.args.pair.place in
-    subst (λ (t : KnownSets). c.args.pair.second < length t.problem.paths) (sym c.self.view_is)
+    subst (λ (t : KnownSets). c.args.pair.second < length t.problem.requests) (sym c.self.view_is)
     (member_known s.problem set c.args.pair.second (c.keeps.ensures.sets c.args.pair.place [] c.requires.place)
     c.requires.second)
 
@@ -19,6 +19,7 @@ pub form_of_tie-requires-clause-same_ends : goal.form_of_tie-requires-clause-sam
 form_of_tie-requires-clause-same_ends g c =
     let s = c.args.self.now in
     let set = set_at s.sets c.args.pair.place in
-    subst (λ (t : KnownSets). IsRouteOf t.problem.graph (slice_get t.problem.paths c.args.pair.first) (edges_of t.problem c.args.pair.second)) (sym c.self.view_is)
+    subst (λ (t : KnownSets). IsRouteOf t.problem.graph (slice_get t.problem.requests c.args.pair.first) (edges_of t.problem c.args.pair.second))
+    (sym c.self.view_is)
     (tie_route s.problem set c.args.pair.first c.args.pair.second c.keeps.ensures.kept.problem
     (c.keeps.ensures.sets c.args.pair.place [] c.requires.place) c.requires.first c.requires.second)

@@ -47,7 +47,8 @@ returns-clause-best c =
     let k = c.args.self.now in
     let left = c.look_at_all.new.self.left in
     chosen_best k left.items c.index.result.now c.requires.kernel.shaped c.requires.kernel.bounded
-    (subst (λ (m : Kernel). AreColumnsLeft (rows_of m.lows.items) m.entering.numbers (length m.lows.items) left.items) c.look_at_all.ensures.keeps c.look_at_all.ensures.left.columns)
+    (subst (λ (m : Kernel). AreColumnsLeft (rows_of m.lows.items) m.entering.numbers (length m.lows.items) left.items) c.look_at_all.ensures.keeps
+    c.look_at_all.ensures.left.columns)
     (omega (arith, c.look_at_all.ensures.left.some, left.ok.0))
     c.index.ensures
 

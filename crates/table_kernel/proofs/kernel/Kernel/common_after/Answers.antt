@@ -35,14 +35,16 @@ returns-in_err-common c =
     let v_in : c.loop-var.var < length k.lows.items = omega (arith, c.loop-var-test.true, c.len-var-end.ensures, k.lows.ok.0) in
     match_none c.from_residual.result _ c.from_residual.ensures
     (subst (λ (n : ℕ). 2 ^ 30 < n) c.loop-var.invariant.left
-    (too_large k.entering c.args.column k.lows.items c.loop-var.var (nat_abs (to_z w64 c.loop-var.common-bits)) (2 ^ 30) v_in (size_positive _ c.loop-var.invariant.range.0)
+    (too_large k.entering c.args.column k.lows.items c.loop-var.var (nat_abs (to_z w64 c.loop-var.common-bits)) (2 ^ 30) v_in
+    (size_positive _ c.loop-var.invariant.range.0)
     (afters_some k c.args.column c.requires.ready) c.in_err-common.ensures))
 
 pub loop-var-preserved : goal.loop-var-preserved
 loop-var-preserved c =
     let k = c.args.self.now in
     let v_in : c.loop-var.var < length k.lows.items = omega (arith, c.loop-var-test.true, c.len-var-end.ensures, k.lows.ok.0) in
-    let is = next_read k.entering c.args.column k.lows.items c.loop-var.var (nat_abs k.common) (next_common k c.args.column) (to_z w64 c.loop-var.common-bits) c.in_ok-common.common v_in c.loop-var.invariant.left
+    let is = next_read k.entering c.args.column k.lows.items c.loop-var.var (nat_abs k.common) (next_common k c.args.column) (to_z w64 c.loop-var.common-bits)
+    c.in_ok-common.common v_in c.loop-var.invariant.left
     c.loop-var.invariant.divides c.in_ok-common.ensures in
     record { left = is.0; range = is.1; divides = is.2 }
 

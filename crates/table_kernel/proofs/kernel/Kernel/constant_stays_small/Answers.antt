@@ -5,7 +5,7 @@ use Rattle.std.specs.Int.{w128}
 use Rattle.std.specs.Prelude.{pos, ◌<ℤ◌}
 use Rattle.std.proofs.lemmas.Int.{to_z-of_z}
 use Rattle.integer_pivots.specs.declared.line.Line.{Line}
-use Rattle.integer_pivots.specs.declared.turn.Turn.{Turn}
+use Rattle.integer_pivots.specs.declared.turned_line.Turn.{Turn}
 use Rattle.integer_pivots.specs.Turns.{denominator_after, turned_number}
 use Rattle.integer_pivots.proofs.Sizes.{read, read_known, size_most}
 use Rattle.table_kernel.specs.Turns.{line_of}
@@ -70,7 +70,8 @@ returns c =
     ∙ c.denominator_times-denominator.ensures.product
     ∙ after_read k c.args.column v c.index.result.now c.turn_at-turn.result c.requires.ready
     (line_read k v c.index.result.now c.requires.ready.among c.index.ensures) turn_is c.turn_at-turn.ensures.multiplier in
-    constant_told k c.args.column v (nat_abs c.args.common) c.stays_within.result (to_z w128 (of_z w128 c.constant_after.result)) (nat_abs (read c.share_in.result))
+    constant_told k c.args.column v (nat_abs c.args.common) c.stays_within.result (to_z w128 (of_z w128 c.constant_after.result))
+    (nat_abs (read c.share_in.result))
     (to_z-of_z w128 c.constant_after.result (record { sfits = c.constant_after.type_inv })
     ∙ c.constant_after.ensures
     ∙ ap (λ (l : Line). turned_number c.turn_at-turn.result l.constant k.entering.constant)

@@ -37,7 +37,8 @@ returns-then-not-constant_stays_small c =
     let k = c.args.self.now in
     let v = c.loop-var.var in
     let v_in : v < length k.lows.items = omega (arith, c.loop-var-test.true, c.len-var-end.ensures, k.lows.ok.0) in
-    never (λ (all : ConstantsStaySmall k c.args.column (nat_abs c.args.common)). failed c.constant_stays_small.result c.if-not-constant_stays_small.true c.constant_stays_small.ensures
+    never (λ (all : ConstantsStaySmall k c.args.column (nat_abs c.args.common)). failed c.constant_stays_small.result c.if-not-constant_stays_small.true
+    c.constant_stays_small.ensures
     (subst (λ (z : ℤ). constant_size k c.args.column (nat_abs z) v ≤ 2 ^ 44) (sym (read_common c.args.common c.requires.common)) (all v v_in)))
 
 pub loop-var-preserved : goal.loop-var-preserved

@@ -7,13 +7,14 @@ use Rattle.design_problem.specs.declared.form.Form.{Form}
 use Rattle.design_problem.specs.declared.tree.Member.{Member}
 use Rattle.design_problem.specs.Basis.{IsFormOf, member_form}
 use Rattle.design_problem.specs.Forms.{no_form}
+use Rattle.fraction_table.proofs.MultiplierSteps.{read_back}
 use Rattle.integer_pivots.specs.Numbers.{weight_of}
 use Rattle.table_kernel.specs.Kernels.{width_of}
 use Rattle.table_kernel.specs.Lines.{column_of}
 use Rattle.table_kernel.specs.Numbers.{number_at_column}
 use Rattle.table_kernel.proofs.AtBasis.{kernel_basis}
 use Rattle.table_kernel.proofs.Columns.{column_long, high_number_in, low_number_in}
-use Rattle.table_kernel.proofs.WideNumbers.{read_wide, wide_negated_fits, wide_negated_is}
+use Rattle.table_kernel.proofs.WideNumbers.{wide_negated_fits, wide_negated_is}
 use Rattle.table_kernel.proofs.kernel.Kernel.entry.Goals as goal
 
 pub low_entry-requires-clause-var : goal.low_entry-requires-clause-var
@@ -59,7 +60,7 @@ returns-in-Low-clause-number c =
     let column = column_of k c.args.column in
     let known = subst (IsFormOf k.table.costs rows) c.in-Low.is c.requires.member in
     let small = c.low_entry.ensures.size in
-    read_wide c.low_entry.result (omega (arith, small))
+    read_back c.low_entry.result (omega (arith, small))
     ∙ c.low_entry.ensures.number
     ∙ sym (low_number_in n rows c.in-Low.var c.in-Low.field-1 column known.0 (sym (column_long k c.requires.kernel.shaped c.args.column)))
     ∙ ap (λ (m : Member). number_at_column (member_form n rows m) column) (sym c.in-Low.is)
@@ -67,7 +68,7 @@ returns-in-Low-clause-number c =
 pub returns-in-Low-clause-size : goal.returns-in-Low-clause-size
 returns-in-Low-clause-size c =
     let small = c.low_entry.ensures.size in
-    omega (arith, small, ap nat_abs (read_wide c.low_entry.result (omega (arith, small))))
+    omega (arith, small, ap nat_abs (read_back c.low_entry.result (omega (arith, small))))
 
 pub returns-in-High-clause-number : goal.returns-in-High-clause-number
 returns-in-High-clause-number c =
@@ -94,7 +95,7 @@ returns-in-Row-clause-number c =
     let column = column_of k c.args.column in
     let known : c.in-Row.row < length rows = subst (IsFormOf k.table.costs rows) c.in-Row.is c.requires.member in
     let small = c.row_entry.ensures.size in
-    read_wide c.row_entry.result (omega (arith, small))
+    read_back c.row_entry.result (omega (arith, small))
     ∙ c.row_entry.ensures.number
     ∙ ap (λ (f : Form). number_at_column f column) (c.index.ensures ∙ get_or_default rows c.in-Row.row c.index.result.now no_form known)
     ∙ ap (λ (m : Member). number_at_column (member_form n rows m) column) (sym c.in-Row.is)
@@ -102,4 +103,4 @@ returns-in-Row-clause-number c =
 pub returns-in-Row-clause-size : goal.returns-in-Row-clause-size
 returns-in-Row-clause-size c =
     let small = c.row_entry.ensures.size in
-    omega (arith, small, ap nat_abs (read_wide c.row_entry.result (omega (arith, small))))
+    omega (arith, small, ap nat_abs (read_back c.row_entry.result (omega (arith, small))))

@@ -20,7 +20,8 @@ abs-requires c =
     let k = c.args.self.now in
     let t = get_or c.terms-term-items.result.now c.loop-term.term-index no_term in
     coefficient_turns t.coefficient
-    (coefficient_light (nat_abs k.common) k.lows.items c.terms-term-items.result.now c.loop-term.term-index no_term _ c.loop-term-test.true c.loop-term.invariant)
+    (coefficient_light (nat_abs k.common) k.lows.items c.terms-term-items.result.now c.loop-term.term-index no_term _ c.loop-term-test.true
+    c.loop-term.invariant)
 
 pub share-requires-clause-kernel : goal.share-requires-clause-kernel
 share-requires-clause-kernel c = kernel_moves c.args.self.now c.requires.kernel

@@ -115,7 +115,8 @@ put_uses-requires-clause-small c =
     let us = c.index-3.result.now.items in
     let puts = c.as_mut_slice.result.now in
     subst (λ (n : ℕ). All (λ u. nat_abs (number_at puts (n + n + u.row)) + size_in us u.row * 2 ^ 45 ≤ 2 ^ 62) us) (sym c.width-width.ensures)
-    (uses_fit k c.requires.kernel.shaped c.requires.kernel.bounded c.requires.kernel.fit c.args.var us puts (uses_are a) c.requires.made.small c.requires.made.others
+    (uses_fit k c.requires.kernel.shaped c.requires.kernel.bounded c.requires.kernel.fit c.args.var us puts (uses_are a) c.requires.made.small
+    c.requires.made.others
     (rows_stay k c.args.var _ _ puts c.requires.var (puts_are a)))
 
 -- what the constants end as, by what the uses leave

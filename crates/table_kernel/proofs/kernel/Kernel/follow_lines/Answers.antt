@@ -24,7 +24,14 @@ follow-requires-clause-kernel c =
 pub follow-requires-clause-var : goal.follow-requires-clause-var
 follow-requires-clause-var c =
     let k = c.args.self.now in
-    omega (arith, c.loop-var-test.true, c.len-var-end.ensures, k.lows.ok.0, c.requires.kernel.shaped.lows, kept_width k c.loop-var.self c.loop-var.invariant.keeps)
+    omega (
+      arith,
+      c.loop-var-test.true,
+      c.len-var-end.ensures,
+      k.lows.ok.0,
+      c.requires.kernel.shaped.lows,
+      kept_width k c.loop-var.self c.loop-var.invariant.keeps,
+    )
 
 pub follow-requires-clause-made : goal.follow-requires-clause-made
 follow-requires-clause-made c =

@@ -8,6 +8,7 @@ use Rattle.design_problem.specs.Basis.{IsFormOf, member_form}
 use Rattle.fraction_table.specs.Multipliers.{columns_numbered, numbered}
 use Rattle.fraction_table.specs.Pivots.{line_at, member_at}
 use Rattle.fraction_table.proofs.MultiplierColumns.{fractions_next}
+use Rattle.fraction_table.proofs.MultiplierSteps.{read_back}
 use Rattle.integer_pivots.proofs.Sizes.{read_number}
 use Rattle.table_kernel.specs.Kernels.{stated, width_of}
 use Rattle.table_kernel.specs.Numbers.{number_at_column}
@@ -15,7 +16,6 @@ use Rattle.table_kernel.specs.Lines.{column_of, form_of_place}
 use Rattle.table_kernel.proofs.Columns.{common_small, place_is, place_number_within}
 use Rattle.table_kernel.proofs.OverCommon.{over_as}
 use Rattle.table_kernel.proofs.StatedLines.{stated_entry, stated_long}
-use Rattle.table_kernel.proofs.WideNumbers.{read_wide}
 use Rattle.table_kernel.proofs.kernel.Kernel.fractions.Goals as goal
 
 pub entry-requires-clause-member : goal.entry-requires-clause-member
@@ -36,7 +36,7 @@ fraction_over-entry-requires-clause-number c =
     c.entry.ensures.number ∙ ap (λ (member : Member). number_at_column (member_form (width_of t) t.table.rows.items member)
     (column_of t c.loop-column.column)) c.member_at-member.ensures in
     let small = place_number_within t m.shaped m.bounded c.args.place c.requires.place c.loop-column.column in
-    let read = read_wide c.entry.result (omega (arith, ap nat_abs number_is, small)) in
+    let read = read_back c.entry.result (omega (arith, ap nat_abs number_is, small)) in
     omega (arith, ap nat_abs read, ap nat_abs number_is, small, m.bounded.top)
 
 pub index-requires : goal.index-requires
@@ -46,7 +46,7 @@ index-requires c =
       arith,
       c.loop-column-test.true,
       c.width-column-end.ensures,
-      c.requires.kernel.whole.unboxed.count,
+      c.requires.kernel.tableau.unboxed.count,
       t.table.basis.ok.0,
     )
 
@@ -64,13 +64,13 @@ loop-column-preserved c =
     fractions_next t.table.basis.items (member_at (stated t) place) (line_at (stated t) place) column
     (width_of t) c.index.result.now c.fraction_over-entry.result c.loop-column.parts.items
     c.put_negated.new.parts.items
-    (omega (arith, c.loop-column-test.true, c.width-column-end.ensures, m.whole.unboxed.count))
+    (omega (arith, c.loop-column-test.true, c.width-column-end.ensures, m.tableau.unboxed.count))
     (omega (arith, c.loop-column-test.true, c.width-column-end.ensures))
     (stated_long t m place c.requires.place)
     c.loop-column.invariant c.index.ensures
     (c.fraction_over-entry.ensures.value
     ∙ over_as _ _ _ _ (ap nat_abs (read_number t.common (omega (arith, common))))
-    (read_wide c.entry.result (omega (arith, ap nat_abs number_is, small)) ∙ number_is)
+    (read_back c.entry.result (omega (arith, ap nat_abs number_is, small)) ∙ number_is)
     ∙ sym (stated_entry t m place column c.requires.place (omega (arith, c.loop-column-test.true, c.width-column-end.ensures))))
     c.in_ok-put_negated.ensures
 
@@ -85,5 +85,5 @@ returns c =
       arith,
       c.loop-column-test.false,
       c.width-column-end.ensures,
-      c.requires.kernel.whole.unboxed.count,
+      c.requires.kernel.tableau.unboxed.count,
     )))

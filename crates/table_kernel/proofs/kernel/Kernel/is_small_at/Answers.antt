@@ -2,7 +2,7 @@
 use Rattle.std.proofs.Common.{◌↔◌, subst}
 use Rattle.std.specs.Prelude.{IsTrue}
 use Rattle.integer_pivots.specs.declared.line.Line.{Line}
-use Rattle.integer_pivots.specs.declared.turn.Turn.{Turn}
+use Rattle.integer_pivots.specs.declared.turned_line.Turn.{Turn}
 use Rattle.integer_pivots.specs.Turns.{AreSmallAfter}
 use Rattle.table_kernel.specs.Turns.{line_of}
 use Rattle.table_kernel.proofs.TurnArgs.{at_pivot, line_read, lowest_there, turn_is_at}
@@ -32,6 +32,7 @@ is_small_at-requires-clause-lowest c =
 pub returns : goal.returns
 returns c =
     let k = c.args.self.now in
-    subst (λ (t : Turn). IsTrue c.is_small_at.result ↔ AreSmallAfter t c.args.column k.entering (line_of k c.args.var) c.args.lowest.part) c.turn_at-turn.ensures.turn
+    subst (λ (t : Turn). IsTrue c.is_small_at.result ↔ AreSmallAfter t c.args.column k.entering (line_of k c.args.var) c.args.lowest.part)
+    c.turn_at-turn.ensures.turn
     (subst (λ (l : Line). IsTrue c.is_small_at.result ↔ AreSmallAfter c.turn_at-turn.result c.args.column k.entering l c.args.lowest.part)
     (line_read k c.args.var c.index.result.now c.requires.ready.among c.index.ensures) c.is_small_at.ensures)

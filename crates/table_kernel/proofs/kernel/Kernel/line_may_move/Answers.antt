@@ -54,12 +54,25 @@ module _ (c : After-share) where
       let short = constants_short c.args.self.now c.requires.kernel.bounded c.args.var no_line (omega (arith, c.requires.var, c.requires.kernel.shaped.lows)) in
       let far_small : nat_abs (read c.args.far) ≤ 2 ^ 61 = omega (arith, ints, far_is, c.requires.far.0, c.requires.far.1) in
       let step_small : nat_abs (read c.step.result) ≤ 2 ^ 30 =
-      omega (arith, ints, ap nat_abs (read_number c.step.result (omega (arith, ints, c.step.ensures.size.0, c.step.ensures.size.1))), c.step.ensures.size.0, c.step.ensures.size.1) in
+      omega (
+        arith,
+        ints,
+        ap nat_abs (read_number c.step.result (omega (arith, ints, c.step.ensures.size.0, c.step.ensures.size.1))),
+        c.step.ensures.size.0,
+        c.step.ensures.size.1,
+      ) in
       let share_small : nat_abs (read c.share.result) ≤ 2 ^ 30 =
-      omega (arith, ints, ap nat_abs (read_number c.share.result (omega (arith, ints, c.share.ensures.positive, c.share.ensures.size))), c.share.ensures.positive, c.share.ensures.size) in
+      omega (
+        arith,
+        ints,
+        ap nat_abs (read_number c.share.result (omega (arith, ints, c.share.ensures.positive, c.share.ensures.size))),
+        c.share.ensures.positive,
+        c.share.ensures.size,
+      ) in
       let moved : nat_abs (read c.args.far) * nat_abs (read c.step.result) ≤ 2 ^ 61 * 2 ^ 30 = mul-le-mul far_small step_small in
       let most : c.from.result + nat_abs (read c.args.far) * nat_abs (read c.step.result) ≤ 2 ^ 92 = omega (arith, moved, constant_is, short) in
-      let all : (c.from.result + nat_abs (read c.args.far) * nat_abs (read c.step.result)) * nat_abs (read c.share.result) ≤ 2 ^ 92 * 2 ^ 30 = mul-le-mul most share_small in
+      let all : (c.from.result + nat_abs (read c.args.far) * nat_abs (read c.step.result)) * nat_abs (read c.share.result) ≤ 2 ^ 92 * 2 ^ 30 = mul-le-mul most
+      share_small in
       omega (arith, all)
 
 pub overflow_mul-result : goal.overflow_mul-result

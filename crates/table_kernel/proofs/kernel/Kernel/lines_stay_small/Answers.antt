@@ -19,7 +19,8 @@ pub returns-then-not-line_stays_small : goal.returns-then-not-line_stays_small
 returns-then-not-line_stays_small c =
     let k = c.args.self.now in
     let v_in : c.loop-var.var < length k.lows.items = omega (arith, c.loop-var-test.true, c.len-var-end.ensures, k.lows.ok.0) in
-    never (λ (all : LinesStaySmall k c.args.column). failed c.line_stays_small.result c.if-not-line_stays_small.true c.line_stays_small.ensures (all c.loop-var.var v_in))
+    never (λ (all : LinesStaySmall k c.args.column). failed c.line_stays_small.result c.if-not-line_stays_small.true c.line_stays_small.ensures
+    (all c.loop-var.var v_in))
 
 pub loop-var-preserved : goal.loop-var-preserved
 loop-var-preserved c =

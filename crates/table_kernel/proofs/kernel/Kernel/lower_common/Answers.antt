@@ -11,7 +11,7 @@ lower c = lower_least c.args.self.now c.in-Some.common c.requires.kernel.bounded
 pub put_constants-requires : goal.put_constants-requires
 put_constants-requires c =
     let m = moving_lower c.args.self.now (read c.in-Some.common) (lower (goal.at.put_constants-requires c).In-Some) c.requires.kernel in
-    record { shaped = m.shaped; bounded = m.bounded; fit = c.requires.kernel.whole.fit; high = m.basis.high_count }
+    record { shaped = m.shaped; bounded = m.bounded; fit = c.requires.kernel.tableau.fit; high = m.basis.high_count }
 
 pub returns-then-common-self-clause-kernel : goal.returns-then-common-self-clause-kernel
 returns-then-common-self-clause-kernel c =

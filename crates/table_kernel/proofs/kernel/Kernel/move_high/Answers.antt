@@ -41,13 +41,15 @@ module _ (c : After-set) where
       ∙ c.range_of-fall.ensures.range
       ∙ ap (λ b. pos b -ℤ pos c.args.bound) high_is
 
-  shift : IsHighShift c.args.self.now c.shift_high.new.self (High c.args.var (slice_index c.args.self.now.table.costs.high c.args.var)) (High c.args.var c.args.bound)
+  shift : IsHighShift c.args.self.now c.shift_high.new.self (High c.args.var (slice_index c.args.self.now.table.costs.high c.args.var))
+      (High c.args.var c.args.bound)
       (pos (slice_index c.args.self.now.table.costs.high c.args.var) -ℤ pos c.args.bound)
   shift =
       let sh = c.shift_high.ensures.shifted in
       subst (λ (b : ℕ). IsHighShift c.args.self.now c.shift_high.new.self (High c.args.var b) (High c.args.var c.args.bound)
       (pos (slice_index c.args.self.now.table.costs.high c.args.var) -ℤ pos c.args.bound)) high_is
-      (subst (λ (z : ℤ). IsHighShift c.args.self.now c.shift_high.new.self (High c.args.var (slice_index c.as_slice.result.now c.args.var)) (High c.args.var c.args.bound) z) fall_is
+      (subst (λ (z : ℤ). IsHighShift c.args.self.now c.shift_high.new.self (High c.args.var (slice_index c.as_slice.result.now c.args.var))
+      (High c.args.var c.args.bound) z) fall_is
       (record { column = sh.0; basis = sh.1.0; lines = sh.1.1 }))
 
   moves_on : IsMoving (put_highs c.shift_high.new.self c.set.new.self)

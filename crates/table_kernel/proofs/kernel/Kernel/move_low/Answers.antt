@@ -41,13 +41,15 @@ module _ (c : After-set) where
       ∙ c.range_of-fall.ensures.range
       ∙ ap (λ b. pos c.args.bound -ℤ pos b) low_is
 
-  shift : IsLowShift c.args.self.now c.shift_low.new.self c.args.var (Low c.args.var (slice_index c.args.self.now.table.costs.low c.args.var)) (Low c.args.var c.args.bound)
+  shift : IsLowShift c.args.self.now c.shift_low.new.self c.args.var (Low c.args.var (slice_index c.args.self.now.table.costs.low c.args.var))
+      (Low c.args.var c.args.bound)
       (pos c.args.bound -ℤ pos (slice_index c.args.self.now.table.costs.low c.args.var))
   shift =
       let sh = c.shift_low.ensures.shifted in
       subst (λ (b : ℕ). IsLowShift c.args.self.now c.shift_low.new.self c.args.var (Low c.args.var b) (Low c.args.var c.args.bound)
       (pos c.args.bound -ℤ pos (slice_index c.args.self.now.table.costs.low c.args.var))) low_is
-      (subst (λ (z : ℤ). IsLowShift c.args.self.now c.shift_low.new.self c.args.var (Low c.args.var (slice_index c.as_slice.result.now c.args.var)) (Low c.args.var c.args.bound) z) fall_is
+      (subst (λ (z : ℤ). IsLowShift c.args.self.now c.shift_low.new.self c.args.var (Low c.args.var (slice_index c.as_slice.result.now c.args.var))
+      (Low c.args.var c.args.bound) z) fall_is
       (record { column = sh.0; basis = sh.1.0; lines = sh.1.1 }))
 
   moves_on : IsMoving (put_lows c.shift_low.new.self c.set.new.self)

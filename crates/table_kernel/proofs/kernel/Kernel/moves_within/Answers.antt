@@ -23,8 +23,10 @@ far c =
     (c.distance-lows.ensures.exact ∙ ap pos lows) (c.distance-highs.ensures.exact ∙ ap pos highs) c.distance-lows.ensures.small c.distance-highs.ensures.small
 
 -- what the test of a line tells
-told : (c : After-line_may_move) → (read (read c.distance-lows.result +ℤ read c.distance-highs.result) ≡ pos (box_distance c.args.self.now.table.costs c.args.costs.now)) →
-    IsTrue c.line_may_move.result ↔ LineMayMove (nat_abs c.args.self.now.common) (box_distance c.args.self.now.table.costs c.args.costs.now) (line_of c.args.self.now c.loop-var.var)
+told : (c : After-line_may_move) → (read (read c.distance-lows.result +ℤ read c.distance-highs.result) ≡
+    pos (box_distance c.args.self.now.table.costs c.args.costs.now)) →
+    IsTrue c.line_may_move.result ↔ LineMayMove (nat_abs c.args.self.now.common) (box_distance c.args.self.now.table.costs c.args.costs.now)
+    (line_of c.args.self.now c.loop-var.var)
 told c is =
     let k = c.args.self.now in
     subst (λ (n : ℕ). IsTrue c.line_may_move.result ↔ LineMayMove (nat_abs k.common) n (line_of k c.loop-var.var)) (ap nat_abs is) c.line_may_move.ensures
@@ -38,12 +40,12 @@ distance-lows-requires-clause-few c = let few = c.requires.kernel.shaped.room.fe
 
 pub distance-highs-requires-clause-long : goal.distance-highs-requires-clause-long
 distance-highs-requires-clause-long c =
-    ap length c.as_slice-3.ensures ∙ c.requires.kernel.whole.box.high_count ∙ sym (ap length c.as_slice-4.ensures ∙ c.requires.ranges.high_count)
+    ap length c.as_slice-3.ensures ∙ c.requires.kernel.tableau.box.high_count ∙ sym (ap length c.as_slice-4.ensures ∙ c.requires.ranges.high_count)
 
 pub distance-highs-requires-clause-few : goal.distance-highs-requires-clause-few
 distance-highs-requires-clause-few c =
     let few = c.requires.kernel.shaped.room.few in
-    omega (arith, few, ap length c.as_slice-3.ensures, c.requires.kernel.whole.box.high_count)
+    omega (arith, few, ap length c.as_slice-3.ensures, c.requires.kernel.tableau.box.high_count)
 
 pub overflow_add-lows : goal.overflow_add-lows
 overflow_add-lows c = (far (goal.at.overflow_add-lows c).After-distance-highs).0

@@ -33,4 +33,4 @@ returns-clause-parked c =
       turns = refl;
       left = refl;
       entering = refl;
-    }) c.put_row.ensures.whole
+    }) c.put_row.ensures.tableau

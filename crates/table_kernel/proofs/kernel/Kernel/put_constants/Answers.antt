@@ -44,7 +44,8 @@ module _ (c : After-as_slice-2) where
   first_is : c.as_mut_slice-2.result.now ≡ c.put_bound_constants.new.constants
   first_is =
       let k = c.args.self.now in
-      let long : length c.put_bound_constants.new.constants ≡ length k.constants.items = c.put_bound_constants.ensures.count ∙ ap length c.as_mut_slice.ensures.value in
+      let long : length c.put_bound_constants.new.constants ≡ length k.constants.items = c.put_bound_constants.ensures.count ∙
+      ap length c.as_mut_slice.ensures.value in
       c.as_mut_slice-2.ensures.value ∙ written k.constants.len c.put_bound_constants.new.constants k.constants.items long k.constants.ok.0
 
   first_long : length c.as_mut_slice-2.result.now ≡ length c.args.self.now.constants.items
@@ -87,7 +88,8 @@ returns-clause-constants c =
     let new = c.put_row_constants.new.constants in
     let r = c.put_row_constants.ensures in
     let D = nat_abs k.common in
-    let common_is : to_z w64 (of_z w64 k.common) ≡ pos D = read_number k.common (omega (arith, common_small k c.requires.bounded)) ∙ positive_is k.common c.requires.bounded.positive in
+    let common_is : to_z w64 (of_z w64 k.common) ≡ pos D = read_number k.common (omega (arith, common_small k c.requires.bounded)) ∙
+    positive_is k.common c.requires.bounded.positive in
     let first = written k.constants.len c.put_bound_constants.new.constants k.constants.items
     (c.put_bound_constants.ensures.count ∙ ap length c.as_mut_slice.ensures.value) k.constants.ok.0 in
     let new_long : length new ≡ length k.constants.items = r.count ∙ first_long a in
@@ -104,7 +106,8 @@ returns-clause-constants c =
           r.bounds (n + v) (omega (arith, v_in))
           ∙ ap (λ (ys : List ℤ). number_at ys (n + v)) (first_is a)
           ∙ c.put_bound_constants.ensures.high v v_in
-          ∙ ap (λ (z : ℤ). (z *ℤ (pos (slice_index k.table.costs.high v) -ℤ pos (slice_index k.table.costs.low v))) -ℤ line_constant (to_z w64 (of_z w64 k.common)) (slice_index_or c.as_slice.result.now v no_line)) common_is
+          ∙ ap (λ (z : ℤ). (z *ℤ (pos (slice_index k.table.costs.high v) -ℤ pos (slice_index k.table.costs.low v))) -ℤ line_constant
+          (to_z w64 (of_z w64 k.common)) (slice_index_or c.as_slice.result.now v no_line)) common_is
           ∙ ap (λ (z : ℤ). (pos D *ℤ (pos (slice_index k.table.costs.high v) -ℤ pos (slice_index k.table.costs.low v))) -ℤ z)
           (sym (c.put_bound_constants.ensures.low v v_in) ∙ ap (λ (ys : List ℤ). number_at ys v) (sym (first_is a)) ∙ low_is a v v_in)))
           (λ row row_in. (
@@ -145,7 +148,8 @@ returns-clause-small c =
     let first = written k.constants.len c.put_bound_constants.new.constants k.constants.items long k.constants.ok.0 in
     let all_is = written k.constants.len c.put_row_constants.new.constants c.put_bound_constants.new.constants
     (c.put_row_constants.ensures.count ∙ first_long a ∙ sym long) (k.constants.ok.0 ∙ sym long) in
-    subst (AllWithin (2 ^ 62)) (sym (ap (λ (ys : List ℤ). take k.constants.len (c.put_row_constants.new.constants ++ drop (length c.put_row_constants.new.constants) ys)) first ∙ all_is))
+    subst (AllWithin (2 ^ 62)) (sym (ap (λ (ys : List ℤ). take k.constants.len (c.put_row_constants.new.constants ++ drop
+    (length c.put_row_constants.new.constants) ys)) first ∙ all_is))
     (c.put_row_constants.ensures.small
     (subst (AllWithin (2 ^ 62)) (sym (first_is a)) (bound.small (subst (AllWithin (2 ^ 62)) (sym c.as_mut_slice.ensures.value) c.requires.bounded.constants))))
 

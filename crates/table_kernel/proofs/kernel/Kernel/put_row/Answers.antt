@@ -3,7 +3,7 @@ use Rattle.std.proofs.Common.{◌≡◌, ◌^◌, ◌≤◌, ◌∙◌, arith, l
 use Rattle.std.specs.Prelude.{ℤ, pos, ◌<ℤ◌, ◌≤ℤ◌, ◌*ℤ◌, ◌+ℤ◌, nat_abs}
 use Rattle.whole_numbers.specs.Lists.{number_at}
 use Rattle.design_problem.specs.Forms.{value_for_costs}
-use Rattle.fraction_rows.proofs.BlankRows.{blank_long}
+use Rattle.fraction_lines.proofs.BlankLines.{blank_long}
 use Rattle.fraction_table.proofs.Pivots.{members_long}
 use Rattle.integer_pivots.specs.Numbers.{product_sum}
 use Rattle.integer_pivots.specs.Uses.{HaveRoom}
@@ -12,7 +12,8 @@ use Rattle.integer_pivots.proofs.Sizes.{number_within, read_number}
 use Rattle.table_kernel.specs.Kernels.{width_of}
 use Rattle.table_kernel.specs.Rows.{row_constant_of}
 use Rattle.table_kernel.proofs.Columns.{common_small, constants_within, low_constants}
-use Rattle.table_kernel.proofs.MoreRows.{kernel_more, low_first}
+use Rattle.table_kernel.proofs.MoreRows.{kernel_more}
+use Rattle.table_kernel.proofs.Corners.{low_constant_is}
 use Rattle.table_kernel.proofs.kernel.Kernel.put_row.Goals as goal
 
 pub row_constant-constant-requires-clause-common : goal.row_constant-constant-requires-clause-common
@@ -33,7 +34,7 @@ pub row_constant-constant-requires-clause-constants : goal.row_constant-constant
 row_constant-constant-requires-clause-constants c v v_in =
     let k = c.args.self.now in
     subst (λ (zs : List ℤ). nat_abs (number_at zs v) ≤ 2 ^ 44) (sym c.as_slice.ensures.value)
-    (subst (λ (z : ℤ). nat_abs z ≤ 2 ^ 44) (sym (low_first k c.requires.kernel v v_in))
+    (subst (λ (z : ℤ). nat_abs z ≤ 2 ^ 44) (sym (low_constant_is k c.requires.kernel v v_in))
     (number_within (2 ^ 44) (low_constants k) v (constants_within k c.requires.kernel.bounded)))
 
 pub push_uses-requires-clause-count : goal.push_uses-requires-clause-count

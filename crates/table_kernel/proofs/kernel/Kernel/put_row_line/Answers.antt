@@ -113,7 +113,8 @@ returns-clause-line c =
     (reduced r (constant_is (goal.at.returns-clause-line c).After-index-2).0)
     (reduced_line k c.args.place c.reduce.ensures.lowered.part _ c.reduce.new.self c.reduce.ensures.lowered.reduced
     (ap read p.keeps.common ∙ common_read k b) b c.reduce.ensures.lowered.positive c.reduce.ensures.lowered.reach_positive
-    (limit_kept (2 ^ 30) c.reduce.new.self.reach c.reduce.ensures.lowered.reach_positive (reach_small r) c.if-self-gt-ENTRY_LIMIT.false) c.reduce.ensures.lowered.within)
+    (limit_kept (2 ^ 30) c.reduce.new.self.reach c.reduce.ensures.lowered.reach_positive (reach_small r) c.if-self-gt-ENTRY_LIMIT.false)
+    c.reduce.ensures.lowered.within)
 
 pub returns-clause-keeps : goal.returns-clause-keeps
 returns-clause-keeps c =

@@ -63,7 +63,8 @@ returns-clause-numbers c i i_in =
     c.put_sums.ensures.numbers i (omega (arith, i_in, c.requires.kernel.shaped.entering))
     ∙ ap (λ (z : ℤ). number_at_column c.index.result.now (map (λ row. number_at row (suc i)) (map (scaled_line (nat_abs z)) c.as_slice.result.now)))
     (common_read k c.requires.kernel.bounded)
-    ∙ ap (λ (ls : List Line). number_at_column c.index.result.now (map (λ row. number_at row (suc i)) (map (scaled_line (nat_abs k.common)) ls))) c.as_slice.ensures.value
+    ∙ ap (λ (ls : List Line). number_at_column c.index.result.now (map (λ row. number_at row (suc i)) (map (scaled_line (nat_abs k.common)) ls)))
+    c.as_slice.ensures.value
     ∙ ap (λ (f : Form). number_at_column f (column_of k i))
     (c.index.ensures ∙ get_or_default k.table.rows.items c.args.row c.index.result.now no_form c.requires.row)
 

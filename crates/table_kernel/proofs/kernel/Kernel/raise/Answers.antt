@@ -1,4 +1,5 @@
--- The line is put down and a column chosen, which only takes room; then the pivot lets the rank rise, or the line is stuck.
+-- The line is put down and a column chosen, which only takes room; then the pivot lets the rank rise, or the line is
+-- stuck.
 use Rattle.std.proofs.Common.{subst, inl, inr, ◌<◌}
 use Rattle.std.specs.Prelude.{None, Some}
 use Rattle.fraction_table.specs.declared.table.Table.{Table}
@@ -6,7 +7,7 @@ use Rattle.fraction_table.specs.Ranks.{rank}
 use Rattle.table_kernel.specs.Kernels.{stated}
 use Rattle.table_kernel.proofs.Refusals.{below_kept, best_kept, entering_kept, in_kept, on_err, refused_at}
 use Rattle.table_kernel.proofs.SameButRoom.{keeps_kernel, keeps_twice, same_stated}
-use Rattle.table_kernel.proofs.Settling.{line_in, line_stuck, none_positive, pivot_place_below, pivot_place_in}
+use Rattle.table_kernel.proofs.Settling.{line_in, line_refuting, none_positive, pivot_place_below, pivot_place_in}
 use Rattle.table_kernel.proofs.kernel.Kernel.raise.Goals as goal
 
 pub put_line-requires-clause-place : goal.put_line-requires-clause-place
@@ -38,7 +39,8 @@ pub returns-in_err-pivot-in-Some-clause-same : goal.returns-in_err-pivot-in-Some
 returns-in_err-pivot-in-Some-clause-same c =
     on_err c.from_residual-in_err-pivot-in-Some.result
     (keeps_twice c.args.self.now c.choose.new.self c.pivot.new.self
-    (keeps_twice c.args.self.now c.put_line.new.self c.choose.new.self c.in_ok-put_line.ensures.keeps c.choose.ensures.keeps) c.in_err-pivot-in-Some.ensures.same)
+    (keeps_twice c.args.self.now c.put_line.new.self c.choose.new.self c.in_ok-put_line.ensures.keeps c.choose.ensures.keeps)
+    c.in_err-pivot-in-Some.ensures.same)
 
 pub returns-in_err-pivot-in-Some-clause-refused : goal.returns-in_err-pivot-in-Some-clause-refused
 returns-in_err-pivot-in-Some-clause-refused c =
@@ -66,7 +68,7 @@ returns-in-None-clause-ahead c =
     let entering = entering_kept c.put_line.new.self new c.args.place c.choose.ensures.keeps c.choose.ensures.entering c.in_ok-put_line.ensures.line in
     let best = best_kept c.put_line.new.self new None c.choose.ensures.keeps c.choose.ensures.entering c.in-None.ensures.best in (
       line_in new kernel c.args.place place_in,
-      line_stuck new kernel c.args.place place_in below (none_positive new c.args.place kernel.bounded entering best),
+      line_refuting new kernel c.args.place place_in below (none_positive new c.args.place kernel.bounded entering best),
     )
 
 pub returns-in_ok-pivot-in-Some-clause-ahead : goal.returns-in_ok-pivot-in-Some-clause-ahead

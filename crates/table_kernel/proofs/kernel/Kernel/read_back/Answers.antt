@@ -50,7 +50,7 @@ put_constants-requires c =
     let at = goal.at.put_constants-requires c in
     let h = c.read_lines-read.new.self in
     may_put_back c.args.self.now h (with_items h.leads c.put_leads.new.leads) (read c.in-Some.common) c.requires.parked (lines at.In_ok-read)
-    c.requires.top (c.covers_rows.ensures.0 c.if-not-covers_rows.false) c.requires.whole (fits at.Else-not-constants_fit)
+    c.requires.top (c.covers_rows.ensures.0 c.if-not-covers_rows.false) c.requires.tableau (fits at.Else-not-constants_fit)
 
 -- with the constants put it is a kernel
 kernel : (c : After-put_constants) → HasLines c.args.self.now c.read_lines-read.new.self (with_items c.read_lines-read.new.self.leads c.put_leads.new.leads) →
@@ -59,7 +59,7 @@ kernel c has f =
     let h = c.read_lines-read.new.self in
     let put = c.put_constants.ensures in
     kernel_back c.args.self.now h (with_items h.leads c.put_leads.new.leads) (read c.in-Some.common) c.requires.parked has c.put_constants.new.self
-    c.requires.top (c.covers_rows.ensures.0 c.if-not-covers_rows.false) c.requires.whole c.in_ok-read.ensures.read f put.constants put.small put.keeps
+    c.requires.top (c.covers_rows.ensures.0 c.if-not-covers_rows.false) c.requires.tableau c.in_ok-read.ensures.read f put.constants put.small put.keeps
 
 pub returns-clause-parked : goal.returns-clause-parked
 returns-clause-parked c =
@@ -77,13 +77,13 @@ returns-clause-lines c =
     let at = goal.at.returns-clause-lines c in
     let h = c.read_lines-read.new.self in
     lines_back c.args.self.now h (with_items h.leads c.put_leads.new.leads) (read c.in-Some.common) c.requires.parked (lines at.In_ok-read)
-    c.put_constants.new.self c.requires.whole c.in_ok-read.ensures.read (fits at.Else-not-constants_fit) c.put_constants.ensures.keeps
+    c.put_constants.new.self c.requires.tableau c.in_ok-read.ensures.read (fits at.Else-not-constants_fit) c.put_constants.ensures.keeps
 
 pub covers_rows-requires-clause-few : goal.covers_rows-requires-clause-few
 covers_rows-requires-clause-few c = c.requires.parked.shaped.room.few
 
 pub covers_rows-requires-clause-fit : goal.covers_rows-requires-clause-fit
-covers_rows-requires-clause-fit c = c.requires.whole.fit
+covers_rows-requires-clause-fit c = c.requires.tableau.fit
 
 pub returns-then-not-covers_rows-clause-table : goal.returns-then-not-covers_rows-clause-table
 returns-then-not-covers_rows-clause-table c = refl

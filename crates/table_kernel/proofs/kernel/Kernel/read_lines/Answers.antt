@@ -7,7 +7,7 @@ use Rattle.integer_pivots.specs.declared.line.Line.{Line}
 use Rattle.integer_pivots.specs.Lines.{IsLine, no_line}
 use Rattle.table_kernel.specs.Kernels.{width_of}
 use Rattle.table_kernel.specs.ReadBack.{FitsOver}
-use Rattle.table_kernel.proofs.ReadSteps.{low_row_in, low_row_long, one_more_read, row_at}
+use Rattle.table_kernel.proofs.ReadSteps.{low_line_in, low_line_long, one_more_read, row_at}
 use Rattle.table_kernel.proofs.Refusals.{on_err}
 use Rattle.table_kernel.proofs.kernel.Kernel.read_lines.Goals.{After-index_mut}
 use Rattle.table_kernel.proofs.kernel.Kernel.read_lines.Goals as goal
@@ -25,17 +25,17 @@ line_long c =
 
 pub index-requires : goal.index-requires
 index-requires c =
-    let inside = low_row_in c.args.self.now c.loop-var.var c.requires.shaped (var_in (goal.at.index-requires c).After-index_mut) in
+    let inside = low_line_in c.args.self.now c.loop-var.var c.requires.shaped (var_in (goal.at.index-requires c).After-index_mut) in
     let count = ap (λ (t : Table). length t.lines.items) c.loop-var.invariant.keeps.table in
     omega (arith, inside, count, c.loop-var.self.table.lines.ok.0)
 
-pub read_line-requires-clause-row : goal.read_line-requires-clause-row
-read_line-requires-clause-row c =
+pub read_line-requires-clause-fractions : goal.read_line-requires-clause-fractions
+read_line-requires-clause-fractions c =
     let k = c.args.self.now in
-    let at = (goal.at.read_line-requires-clause-row c).After-index_mut in
+    let at = (goal.at.read_line-requires-clause-fractions c).After-index_mut in
     let inside = var_in at in
     let same = row_at k c.loop-var.self c.loop-var.var c.index.result.now c.requires.shaped c.loop-var.invariant.keeps inside c.index.ensures in
-    ap length same ∙ low_row_long k c.loop-var.var c.requires.shaped inside ∙ ap suc (sym (line_long at))
+    ap length same ∙ low_line_long k c.loop-var.var c.requires.shaped inside ∙ ap suc (sym (line_long at))
 
 pub returns-in_err-read_line-clause-refused : goal.returns-in_err-read_line-clause-refused
 returns-in_err-read_line-clause-refused c =

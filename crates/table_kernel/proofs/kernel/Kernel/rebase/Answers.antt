@@ -1,7 +1,7 @@
 -- Bound by bound the kernel moves.
 use Rattle.std.proofs.Common.{◌≡◌, ℕ, ◌<◌, ◌≤◌, ◌+◌, suc, refl, ap, sym, subst, length, arith}
 use Rattle.std.specs.Prelude.{slice_index}
-use Rattle.design_problem.specs.declared.form.CostBox.{CostBox}
+use Rattle.design_problem.specs.declared.boxes.CostBox.{CostBox}
 use Rattle.design_problem.specs.Boxes.{IsBox}
 use Rattle.fraction_table.specs.Moves.{IsMoved}
 use Rattle.fraction_table.specs.Tableaus.{between}
@@ -30,7 +30,7 @@ loop-var-init c =
 
 -- both boxes have as many bounds
 alike : (k : Kernel) (costs : CostBox) → IsKernel k → IsBox (width_of k) costs → AreAlike k.table.costs costs
-alike k costs m box = record { high = m.whole.unboxed.high_count; new_low = box.low_count; new_high = box.high_count }
+alike k costs m box = record { high = m.tableau.unboxed.high_count; new_low = box.low_count; new_high = box.high_count }
 
 pub move_low-requires-clause-room : goal.move_low-requires-clause-room
 move_low-requires-clause-room c =

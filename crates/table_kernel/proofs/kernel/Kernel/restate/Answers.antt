@@ -41,8 +41,8 @@ returns-clause-lines c =
     restated_all t c.loop-place.place c.loop-place.self.table.lines.items c.requires.kernel
     (omega (arith, c.loop-place-test.false, c.loop-place.auto.place-end, c.len-place-end.ensures, t.constants.ok.0)) c.loop-place.invariant.lines
 
-pub returns-clause-whole : goal.returns-clause-whole
-returns-clause-whole c =
+pub returns-clause-tableau : goal.returns-clause-tableau
+returns-clause-tableau c =
     let t = c.args.self.now in
     restated_whole t c.loop-place.self c.requires.kernel c.loop-place.invariant.keeps
     (restated_all t c.loop-place.place c.loop-place.self.table.lines.items c.requires.kernel

@@ -4,14 +4,15 @@ use Rattle.std.specs.Prelude.{ℤ, pos, slice_set}
 use Rattle.std.proofs.lemmas.List.{get_or_default, get_or-set_same}
 use Rattle.whole_numbers.specs.Fractions.{Fraction}
 use Rattle.whole_numbers.specs.Lists.{number_at}
-use Rattle.fraction_rows.specs.TableRows.{blank_row}
+use Rattle.fraction_lines.specs.TableLines.{blank_line}
+use Rattle.fraction_table.proofs.MultiplierSteps.{read_back}
 use Rattle.integer_pivots.proofs.Sizes.{read_number}
 use Rattle.table_kernel.specs.Kernels.{width_of}
 use Rattle.table_kernel.proofs.Columns.{common_small}
 use Rattle.table_kernel.proofs.Lines.{common_read}
 use Rattle.table_kernel.proofs.OverCommon.{over_as}
 use Rattle.table_kernel.proofs.Restated.{set_twice}
-use Rattle.table_kernel.proofs.WideNumbers.{read_of, read_wide}
+use Rattle.table_kernel.proofs.WideNumbers.{read_of}
 use Rattle.table_kernel.proofs.kernel.Kernel.restate_constant.Goals as goal
 use Rattle.table_kernel.proofs.kernel.Kernel.restate_constant.Goals.{After-from}
 
@@ -34,7 +35,7 @@ number_is c =
     let small : nat_abs z ≤ 2 ^ 62 = subst (λ (y : ℤ). nat_abs y ≤ 2 ^ 62) (sym c.index.ensures)
     (c.requires.kernel.bounded.constants c.args.place z c.requires.place) in
     let is : read_of c.from.result ≡ z =
-    ap read_of (c.from.ensures ∙ read_number z (omega (arith, small))) ∙ read_wide z (omega (arith, small)) in
+    ap read_of (c.from.ensures ∙ read_number z (omega (arith, small))) ∙ read_back z (omega (arith, small)) in
     (is ∙ same, omega (arith, ap nat_abs is, small))
 
 pub fraction_over-constant-requires-clause-number : goal.fraction_over-constant-requires-clause-number
@@ -57,8 +58,8 @@ returns-clause-lines c =
     c.index_mut-2.ensures.value
     ∙ get_or-set_same lines c.args.place c.clear.new.self _ place_in
     ∙ c.clear.ensures
-    ∙ ap blank_row (let e : length c.index_mut.result.now - 1 ≡ width_of k = omega (arith, long) in e))
-    ∙ ap (λ (p : Fraction). slice_set (blank_row (width_of k)) 0 p) (c.fraction_over-constant.ensures.value
+    ∙ ap blank_line (let e : length c.index_mut.result.now - 1 ≡ width_of k = omega (arith, long) in e))
+    ∙ ap (λ (p : Fraction). slice_set (blank_line (width_of k)) 0 p) (c.fraction_over-constant.ensures.value
     ∙ over_as _ _ _ _ (ap nat_abs (common_read k c.requires.kernel.bounded)) (number_is (goal.at.returns-clause-lines c).After-from).0))
 
 pub returns-clause-keeps : goal.returns-clause-keeps

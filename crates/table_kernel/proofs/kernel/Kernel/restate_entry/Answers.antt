@@ -4,10 +4,10 @@ use Rattle.std.specs.Prelude.{slice_index_or, slice_set}
 use Rattle.std.proofs.lemmas.List.{get_or_default}
 use Rattle.whole_numbers.specs.Fractions.{Fraction}
 use Rattle.design_problem.specs.Basis.{entry}
+use Rattle.fraction_table.proofs.MultiplierSteps.{read_back}
 use Rattle.table_kernel.proofs.Columns.{common_small}
 use Rattle.table_kernel.proofs.Lines.{common_read}
 use Rattle.table_kernel.proofs.OverCommon.{over_as}
-use Rattle.table_kernel.proofs.WideNumbers.{read_wide}
 use Rattle.table_kernel.proofs.kernel.Kernel.restate_entry.Goals as goal
 
 pub fraction_over-number-requires-clause-common : goal.fraction_over-number-requires-clause-common
@@ -19,7 +19,7 @@ fraction_over-number-requires-clause-common c =
 pub fraction_over-number-requires-clause-number : goal.fraction_over-number-requires-clause-number
 fraction_over-number-requires-clause-number c =
     let small = c.entry.ensures.size in
-    omega (arith, small, ap nat_abs (read_wide c.entry.result (omega (arith, small))), c.requires.kernel.bounded.top)
+    omega (arith, small, ap nat_abs (read_back c.entry.result (omega (arith, small))), c.requires.kernel.bounded.top)
 
 pub push-requires-clause-within : goal.push-requires-clause-within
 push-requires-clause-within c =
@@ -46,7 +46,7 @@ returns-clause-lines c =
     (c.index_mut.ensures.value ∙ get_or_default lines c.args.place _ [] (omega (arith, c.requires.place, s.lines)))
     ∙ ap (slice_set (slice_index_or lines c.args.place []) (suc c.args.column)) (c.fraction_over-number.ensures.value
     ∙ over_as _ _ _ _ (ap nat_abs (common_read k c.requires.kernel.bounded))
-    (read_wide c.entry.result (omega (arith, small)) ∙ c.entry.ensures.number)))
+    (read_back c.entry.result (omega (arith, small)) ∙ c.entry.ensures.number)))
 
 pub returns-clause-keeps : goal.returns-clause-keeps
 returns-clause-keeps c = record {

@@ -1,6 +1,6 @@
 -- The line has the numbers of the place's form.
 use Rattle.std.proofs.Common.{ap, sym, subst, arith, length}
-use Rattle.design_problem.specs.declared.form.CostBox.{CostBox}
+use Rattle.design_problem.specs.declared.boxes.CostBox.{CostBox}
 use Rattle.design_problem.specs.Basis.{IsFormOf}
 use Rattle.table_kernel.proofs.Columns.{place_is}
 use Rattle.table_kernel.proofs.Restated.{filled_all, filled_behind, filled_first, filled_kernel, filled_next, form_kept}
@@ -10,7 +10,8 @@ pub loop-column-init : goal.loop-column-init
 loop-column-init c = filled_first c.args.self.now c.restate_constant.new.self c.args.place c.restate_constant.ensures.keeps c.restate_constant.ensures.lines
 
 pub restate_entry-requires-clause-kernel : goal.restate_entry-requires-clause-kernel
-restate_entry-requires-clause-kernel c = filled_kernel c.args.self.now c.loop-column.self c.args.place c.loop-column.column c.loop-column.invariant c.requires.kernel
+restate_entry-requires-clause-kernel c = filled_kernel c.args.self.now c.loop-column.self c.args.place c.loop-column.column c.loop-column.invariant
+    c.requires.kernel
 
 pub restate_entry-requires-clause-place : goal.restate_entry-requires-clause-place
 restate_entry-requires-clause-place c = omega (arith, c.requires.place, ap (λ v. length v.items) c.loop-column.invariant.keeps.constants)
@@ -40,7 +41,12 @@ pub loop-column-preserved : goal.loop-column-preserved
 loop-column-preserved c =
     filled_next c.args.self.now c.loop-column.self c.restate_entry.new.self c.args.place c.loop-column.column c.member_at-member.result
     (omega (arith, c.requires.place, c.requires.kernel.shaped.lines))
-    (omega (arith, c.loop-column-test.true, c.width-column-end.ensures, ap (λ (costs : CostBox). length costs.low) c.restate_constant.ensures.keeps.table.costs))
+    (omega (
+      arith,
+      c.loop-column-test.true,
+      c.width-column-end.ensures,
+      ap (λ (costs : CostBox). length costs.low) c.restate_constant.ensures.keeps.table.costs,
+    ))
     c.member_at-member.ensures
     c.loop-column.invariant c.restate_entry.ensures.keeps c.restate_entry.ensures.lines
 

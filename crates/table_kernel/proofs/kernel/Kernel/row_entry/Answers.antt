@@ -5,11 +5,12 @@ use Rattle.std.specs.Int.{w128}
 use Rattle.std.specs.Prelude.{ℤ, ◌+ℤ◌, ◌*ℤ◌, nat_abs}
 use Rattle.std.proofs.Math.Nat.{mul-le-mul_right}
 use Rattle.design_problem.specs.Forms.{no_term}
+use Rattle.fraction_table.proofs.MultiplierSteps.{read_back}
 use Rattle.integer_pivots.proofs.Sizes.{read_number}
 use Rattle.table_kernel.specs.Lines.{column_of}
 use Rattle.table_kernel.proofs.Columns.{column_long}
 use Rattle.table_kernel.proofs.LineSums.{IsPartSum, summed_all, summed_first, term_part}
-use Rattle.table_kernel.proofs.WideNumbers.{read_of, read_wide, wide_step}
+use Rattle.table_kernel.proofs.WideNumbers.{read_of, wide_step}
 use Rattle.table_kernel.proofs.kernel.Kernel.row_entry.Goals as goal
 use Rattle.table_kernel.proofs.kernel.Kernel.row_entry.Goals.{After-product_of-sum}
 
@@ -34,7 +35,7 @@ product_of-sum-requires-clause-factor c =
 pub product_of-sum-requires-clause-number : goal.product_of-sum-requires-clause-number
 product_of-sum-requires-clause-number c =
     let small = c.low_entry.ensures.size in
-    omega (arith, small, ap nat_abs (read_wide c.low_entry.result (omega (arith, small))))
+    omega (arith, small, ap nat_abs (read_back c.low_entry.result (omega (arith, small))))
 
 step : (c : After-product_of-sum) →
     FitsSigned w128 (to_z w128 c.loop-term.sum-bits +ℤ read_of c.product_of-sum.result)
@@ -52,7 +53,7 @@ step c =
     (subst (λ (z : ℤ). nat_abs z ≤ 2 ^ 60) c.low_entry.ensures.number small)
     (c.product_of-sum.ensures ∙ ap₂ (λ (x y : ℤ). x *ℤ y)
     (read_number t.coefficient (omega (arith, light)))
-    (read_wide c.low_entry.result (omega (arith, small)) ∙ c.low_entry.ensures.number))
+    (read_back c.low_entry.result (omega (arith, small)) ∙ c.low_entry.ensures.number))
     light c.loop-term.invariant
 
 pub overflow_add-sum : goal.overflow_add-sum

@@ -17,7 +17,7 @@ pub pivots-smaller : goal.pivots-smaller
 pivots-smaller c =
     let old = c.pivots.self in
     let new = c.advance.new.self in
-    nearer (stated old) (stated new) c.in_ok-solved.ensures.kernel.whole c.in_ok-solved.ensures.keeps
+    nearer (stated old) (stated new) c.in_ok-solved.ensures.kernel.tableau c.in_ok-solved.ensures.keeps
     (subst (IsAhead (stated old) (stated new)) c.in_default.is c.in_ok-solved.ensures.ahead)
 
 -- the table's lines are the kernel's

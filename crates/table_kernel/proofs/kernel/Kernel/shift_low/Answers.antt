@@ -39,7 +39,8 @@ module _ (c : After-index) where
 
 -- what is written to
 line_is : (c : After-index_mut) → c.index_mut.result.now ≡ line_of c.args.self.now c.args.var
-line_is c = c.index_mut.ensures.value ∙ get_or_default c.args.self.now.lows.items c.args.var _ no_line (omega (arith, c.requires.var, c.requires.kernel.shaped.lows))
+line_is c = c.index_mut.ensures.value ∙ get_or_default c.args.self.now.lows.items c.args.var _ no_line
+    (omega (arith, c.requires.var, c.requires.kernel.shaped.lows))
 
 pub overflow_mul-index : goal.overflow_mul-index
 overflow_mul-index c = (right (goal.at.overflow_mul-index c).After-index (line_of c.args.self.now c.args.var) refl).product_fits

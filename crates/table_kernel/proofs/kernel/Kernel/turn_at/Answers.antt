@@ -1,7 +1,7 @@
 -- The turn that is held is that of the line.
 use Rattle.std.proofs.Common.{◌^◌, ◌≤◌, sym, subst}
 use Rattle.std.specs.Prelude.{pos, ◌<ℤ◌, ◌≤ℤ◌, nat_abs}
-use Rattle.integer_pivots.specs.declared.turn.Turn.{Turn}
+use Rattle.integer_pivots.specs.declared.turned_line.Turn.{Turn}
 use Rattle.table_kernel.proofs.TurnArgs.{turn_read, turn_sizes}
 use Rattle.table_kernel.proofs.kernel.Kernel.turn_at.Goals as goal
 

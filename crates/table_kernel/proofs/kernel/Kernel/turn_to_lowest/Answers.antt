@@ -51,7 +51,8 @@ turned_at c =
     let e = c.turn_lines_to_lowest.ensures in
     record { ready = c.requires.ready; keeps = e.keeps; turned = e.turned; bounded = e.bounded }
 
-leads_at : (c : After-turn_leads) → AreLeadsPut c.args.self.now c.turn_lines_to_lowest.new.self (with_items c.turn_lines_to_lowest.new.self.leads c.turn_leads.new.leads)
+leads_at : (c : After-turn_leads) → AreLeadsPut c.args.self.now c.turn_lines_to_lowest.new.self
+    (with_items c.turn_lines_to_lowest.new.self.leads c.turn_leads.new.leads)
 leads_at c =
     let e = c.turn_lines_to_lowest.ensures in
     let t = c.turn_leads.ensures in

@@ -1,8 +1,8 @@
 -- The path is one too many, or keeps the rules.
 use Rattle.std.proofs.Common.{List, refl, subst, sym}
-use Rattle.request_reader.specs.declared.Item.{Item}
+use Rattle.request_reader.specs.declared.DirectiveLine.{DirectiveLine}
 use Rattle.request_reader.specs.ReadingSteps.{KeepsTold}
-use Rattle.request_reader.proofs.ReadingPaths.{counted_now, item_told, path_kept, path_lawful, path_refused}
+use Rattle.request_reader.proofs.ReadingPaths.{counted_now, line_told, path_kept, path_lawful, path_refused}
 use Rattle.request_reader.proofs.reading.reader.Reader.take_path.Goals as goal
 
 pub returns-then-self-ge-MOST_PATHS-clause-refused : goal.returns-then-self-ge-MOST_PATHS-clause-refused
@@ -21,15 +21,15 @@ returns-clause-taken c =
 
 pub invariant_of-self : goal.invariant_of-self
 invariant_of-self c =
-    subst (λ (items : List Item). KeepsTold c.self.inside.default_cost c.self.inside.paths items)
-    (sym c.in_err-add_item.ensures.kept) c.self.invariant
+    subst (λ (items : List DirectiveLine). KeepsTold c.self.inside.default_cost c.self.inside.paths items)
+    (sym c.in_err-push_last.ensures.kept) c.self.invariant
 
 pub invariant_of-self-2 : goal.invariant_of-self-2
 invariant_of-self-2 c =
-    path_kept c.self.inside.default_cost c.self.inside.paths c.self.inside.items.items c.add_item.new.items.items c.args.path
-    c.self.invariant c.requires.bounds c.requires.path c.if-self-ge-MOST_PATHS.false c.in_ok-add_item.ensures.added
+    path_kept c.self.inside.default_cost c.self.inside.paths c.self.inside.items.items c.push_last.new.things.items c.args.path
+    c.self.invariant c.requires.bounds c.requires.path c.if-self-ge-MOST_PATHS.false c.in_ok-push_last.ensures.added
 
 pub returns-clause-told : goal.returns-clause-told
 returns-clause-told c =
-    item_told c.self.inside.area c.self.inside.default_cost c.self.inside.items.items
-    c.add_item.new.items.items c.args.path c.args.self.now c.self.view_is c.in_ok-add_item.ensures.added
+    line_told c.self.inside.area c.self.inside.default_cost c.self.inside.items.items
+    c.push_last.new.things.items c.args.path c.args.self.now c.self.view_is c.in_ok-push_last.ensures.added

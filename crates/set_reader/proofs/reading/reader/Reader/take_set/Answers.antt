@@ -13,8 +13,8 @@ pub mark_members-requires : goal.mark_members-requires
 mark_members-requires c =
     let members = c.in_ok-members.members.items in
     let taken = c.self.inside.taken.items in
-    let requests : c.as_slice-requests.result.now ≡ c.self.inside.problem.now.paths = c.as_slice-requests.ensures
-    ∙ ap (λ (p : DesignProblem). p.paths) c.problem.view_is in
+    let requests : c.as_slice-requests.result.now ≡ c.self.inside.problem.now.requests = c.as_slice-requests.ensures
+    ∙ ap (λ (p : DesignProblem). p.requests) c.problem.view_is in
     let known : All (λ member. member < length taken) members =
     All-weaker (λ member. member < length c.as_slice-requests.result.now) (λ member. member < length taken)
     (λ member below. let count = ap length requests in omega (arith, below, count, c.self.invariant.count)) members c.in_ok-members.ensures.known in
@@ -26,9 +26,9 @@ invariant_of-self-2 c =
     let sets = c.self.inside.sets.items in
     let taken = c.self.inside.taken.items in
     let numbers = c.args.numbers.now in
-    let requests : c.as_slice-requests.result.now ≡ c.self.inside.problem.now.paths = c.as_slice-requests.ensures
-    ∙ ap (λ (p : DesignProblem). p.paths) c.problem.view_is in
-    let lawful : is_wrong_set c.self.inside.problem.now.paths (concat sets) numbers ≡ false =
+    let requests : c.as_slice-requests.result.now ≡ c.self.inside.problem.now.requests = c.as_slice-requests.ensures
+    ∙ ap (λ (p : DesignProblem). p.requests) c.problem.view_is in
+    let lawful : is_wrong_set c.self.inside.problem.now.requests (concat sets) numbers ≡ false =
     subst (λ (rs : List Request). is_wrong_set rs (concat sets) numbers ≡ false) requests
     (c.in_ok-members.ensures.lawful (concat sets) (subst (AreEdgeMarks (concat sets)) (sym c.as_slice.ensures.value) c.self.invariant.marks)) in
     let set : c.as_slice-2.result.now ≡ members = c.as_slice-2.ensures ∙ c.from_items-set.ensures in

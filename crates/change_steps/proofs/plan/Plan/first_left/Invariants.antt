@@ -1,6 +1,0 @@
-use Rattle.std.proofs.Common.{ℕ, ◌<◌}
-use Rattle.change_steps.specs.States.{MayFollow}
-use Rattle.change_steps.proofs.plan.Plan.first_left.Given as goal
-
-abbrev pub invariant-loop-step : goal.invariant-loop-step
-invariant-loop-step l = (k : ℕ) → k < l.step → MayFollow l.self.rollout l.self.held l.done k → ⊥

@@ -1,5 +1,0 @@
-use Rattle.std.proofs.Common.{◌≡◌, take}
-use Rattle.change_steps.proofs.state.widened.Given as goal
-
-abbrev pub invariant-loop-cost : goal.invariant-loop-cost
-invariant-loop-cost l = l.values.items ≡ take l.cost-index l.costs

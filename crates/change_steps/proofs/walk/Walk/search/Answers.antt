@@ -1,9 +1,0 @@
-use Rattle.std.proofs.Common.{List, Bool, subst}
-use Rattle.change_steps.specs.States.{MayFollow}
-use Rattle.change_steps.proofs.WalkLaws.{begun_under_way}
-use Rattle.change_steps.proofs.walk.Walk.search.Goals as goal
-
-pub take_turns-requires : goal.take_turns-requires
-take_turns-requires c =
-    begun_under_way c.args.plan.now c.args.nodes c.args.self.now c.in-Some.field-0 c.requires
-    (subst (λ (m : List Bool). MayFollow c.args.plan.now.rollout c.args.plan.now.held m c.in-Some.field-0) c.deref.ensures.value c.in-Some.ensures)

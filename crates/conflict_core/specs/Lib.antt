@@ -1,4 +1,0 @@
-pub mod Conflicts
-pub mod Asking
-pub mod Deciding
-pub mod Laws

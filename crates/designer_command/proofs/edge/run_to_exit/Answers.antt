@@ -1,6 +1,0 @@
--- The exit status is the number of the run's status.
-use Rattle.std.proofs.Common.{◌∙◌}
-use Rattle.designer_command.proofs.edge.run_to_exit.Goals as goal
-
-pub returns-clause-exit : goal.returns-clause-exit
-returns-clause-exit g c = c.from.ensures ∙ c.number.ensures

@@ -1,5 +1,0 @@
-use Rattle.std.proofs.Common.{◌≡◌, take}
-use Rattle.evidence_checker.proofs.paths.point_of.Given as goal
-
-abbrev pub invariant-loop-cost : goal.invariant-loop-cost
-invariant-loop-cost l = l.values.items ≡ take l.cost-index l.costs

@@ -1,0 +1,13 @@
+pub mod ZeroFractions
+pub mod Columns
+pub mod Crossings
+pub mod NamedSteps
+pub mod FilledLines
+pub mod BlankLines
+pub mod NoStep
+pub mod SmallNumbers
+pub mod TableLineLaws
+pub mod PivotSteps
+pub mod TermSums
+pub mod MarkLaws
+pub mod HalvedPlaces

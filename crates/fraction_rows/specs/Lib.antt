@@ -1,5 +1,0 @@
-pub mod TableRows
-pub mod Entries
-pub mod Turns
-pub mod Sums
-pub mod Marks

@@ -1,7 +1,0 @@
--- The row of zeros is as long as its columns and its constant.
-use Rattle.std.proofs.Common.{◌∙◌, ap, length}
-use Rattle.fraction_rows.proofs.BlankRows.{blank_size}
-use Rattle.fraction_table.proofs.start.bound_row.Goals as goal
-
-pub put_unit_line-requires-clause-width : goal.put_unit_line-requires-clause-width
-put_unit_line-requires-clause-width c = ap length c.in_ok-row.ensures ∙ blank_size c.args.width

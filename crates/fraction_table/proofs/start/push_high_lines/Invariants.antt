@@ -1,0 +1,16 @@
+-- The lines of the variables before the counter were put.
+use Rattle.std.proofs.Common.{◌≡◌, suc, ◌∷◌, ◌++◌, map, length}
+use Rattle.std.specs.Prelude.{pos, negsuc, ◌-ℤ◌, slice_index}
+use Rattle.cost_base.specs.Lists.{numbers_from}
+use Rattle.whole_numbers.specs.Fractions.{whole}
+use Rattle.design_problem.specs.Basis.{unit}
+use Rattle.fraction_lines.specs.Turns.{AreTableLines}
+use Rattle.fraction_table.proofs.start.push_high_lines.Given as goal
+
+abbrev pub invariant-loop-var : goal.invariant-loop-var
+invariant-loop-var l = record {
+  lines : l.lines.items ≡ l.initial.lines.items
+      ++ map (λ v. whole (pos (slice_index l.high v) -ℤ pos (slice_index l.low v))
+      ∷ map whole (unit (length l.low) v (negsuc 0))) (numbers_from 0 l.var);
+  numbers : AreTableLines l.top (suc (length l.low)) l.lines.items;
+}

@@ -1,0 +1,4 @@
+pub mod Conflicts
+pub mod AdvisorsAsked
+pub mod Deciding
+pub mod Laws

@@ -1,5 +1,0 @@
-use Rattle.std.proofs.Common.{rules}
-use Rattle.wide_fraction.proofs.words.bounded_sum.Goals as goal
-
-pub returns-then-unsigned_abs-most : goal.returns-then-unsigned_abs-most
-returns-then-unsigned_abs-most c = search rules
