@@ -11,7 +11,7 @@ mod script;
 mod texts;
 
 pub use entries::{Entries, Named, Part, Step, Terms};
-pub use script::{Script, play_all};
+pub use script::Script;
 use std::alloc::{AllocError, Global};
 use std::fmt;
 use std::str::{FromStr, SplitWhitespace};

@@ -11,26 +11,19 @@ pub trait Script {
     ///
     /// That no memory is left.
     fn answer(&mut self, alloc: Global, line: &str) -> io::Result<String>;
-}
 
-/// Writes a line, and behind it what is answered.
-fn play<R: Print + AllocGlobal, S: Script>(rt: &R, script: &mut S, line: &str) -> io::Result<()> {
-    let text = script.answer(rt.alloc(), line)?;
-    println!(rt; "{line}{text}")
-}
-
-/// Plays each line of standard input: writes it, and behind it what is answered.
-///
-/// # Errors
-///
-/// The first failure to read, to answer or to write a line.
-pub fn play_all<R: Input + Print + AllocGlobal, S: Script>(
-    rt: &R,
-    script: &mut S,
-) -> io::Result<()> {
-    for line in rt.lines(rt.alloc()) {
-        let line = line?;
-        play(rt, script, line.as_str())?;
+    /// Plays each line of standard input: writes it, and behind it what is answered.
+    ///
+    /// # Errors
+    ///
+    /// The first failure to read, to answer or to write a line.
+    fn play(&mut self, rt: &HostRuntime) -> io::Result<()> {
+        let alloc = rt.alloc();
+        for line in rt.lines(alloc) {
+            let line = line?;
+            let answer = self.answer(alloc, line.as_str())?;
+            println!(rt; "{line}{answer}")?;
+        }
+        Ok(())
     }
-    Ok(())
 }

@@ -17,10 +17,10 @@ mod sinks;
 mod texts;
 
 use crate::answer::Scene;
-use case_scripts::play_all;
+use case_scripts::Script;
 use std::io;
 
 fn main(rt: HostRuntime) -> io::Result<()> {
     let mut scene = Scene::new(rt);
-    play_all(&rt, &mut scene)
+    scene.play(&rt)
 }

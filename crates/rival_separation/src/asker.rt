@@ -83,7 +83,7 @@ impl Asker {
     {
         let room = Room::new(alloc, graph)?;
         let order = sorted_numbers(alloc, requests.len(), |number| {
-            target_of(requests.get(*number))
+            requests.get(*number).map(target_of)
         })?;
         Ok(Asker { room, order })
     }

@@ -1,6 +1,6 @@
 //! Distances that several requests share: those to one end without the same edges.
 
-ghost use Rattle.std.specs.Prelude.{◌≡◌, ◌<◌, ◌≤◌, ℕ, All, Contains, IfOk, IsTrue};
+ghost use Rattle.std.specs.Prelude.{◌≡◌, ◌<◌, ◌≤◌, ℕ, All, Contains, IfOk, IsTrue, length, slice_get};
 ghost use Rattle.rival_separation.specs.Askers.{IsReadyToCompare, IsShared};
 ghost use Rattle.rival_separation.specs.Outlooks.{CanCompare, FitsOutlook, HasItsPath, IsReadyFor, MayShareFor, lead_in};
 ghost use Rattle.rival_separation.specs.Outlooks.{AreOutlooks};
@@ -26,14 +26,13 @@ pub struct Shared<'a> {
 
 /// What requests that share distances have in common: their end, and how many edges they exclude and the
 /// first of these.
-pub fn target_of(request: Option<&Request>) -> (u32, usize, Option<u32>) {
-    match request {
-        Some(request) => {
-            let excluded = request.excluded.as_slice();
-            (request.end, excluded.len(), excluded.first().copied())
-        }
-        None => (0, 0, None),
-    }
+pub fn target_of(request: &Request) -> (u32, usize, Option<u32>)
+    ensures end { result.0 ≡ request.now.end }
+    ensures excluded { result.1 ≡ length request.now.excluded }
+    ensures first { result.2 ≡ slice_get request.now.excluded 0 }
+{
+    let excluded = request.excluded.as_slice();
+    (request.end, excluded.len(), excluded.first().copied())
 }
 
 /// The numbers below a count, sorted by what `key` makes of each.

@@ -11,10 +11,10 @@ mod source;
 mod words;
 
 use crate::answer::SceneAtHand;
-use case_scripts::play_all;
+use case_scripts::Script;
 use std::io;
 
 fn main(rt: HostRuntime) -> io::Result<()> {
     let mut scene = SceneAtHand::new();
-    play_all(&rt, &mut scene)
+    scene.play(&rt)
 }

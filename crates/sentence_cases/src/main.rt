@@ -4,7 +4,7 @@
 //! `stdin` has a line for each number, and `stdout` the sentences, which were written down outside.
 #![tactic(auto)]
 
-use case_scripts::{Script, play_all};
+use case_scripts::Script;
 use refusal_sentences::sentence_of;
 use std::alloc::Global;
 use std::io::{self, ErrorKind};
@@ -28,5 +28,5 @@ impl Script for Sentences {
 
 fn main(rt: HostRuntime) -> io::Result<()> {
     let mut sentences = Sentences;
-    play_all(&rt, &mut sentences)
+    sentences.play(&rt)
 }

@@ -13,10 +13,10 @@ mod problems;
 mod requests;
 
 use crate::answer::Scene;
-use case_scripts::play_all;
+use case_scripts::Script;
 use std::io;
 
 fn main(rt: HostRuntime) -> io::Result<()> {
     let mut scene = Scene::new(rt.alloc());
-    play_all(&rt, &mut scene)
+    scene.play(&rt)
 }
