@@ -16,13 +16,13 @@ use std::rt::Files;
 
 /// The runtime whose files lines ask for. Nothing lasts from line to line.
 #[derive(Drop)]
-pub struct Scene<R> {
-    rt: R,
+pub struct Scene {
+    rt: HostRuntime,
 }
 
-impl<R> Scene<R> {
+impl Scene {
     /// The files of this runtime.
-    pub(crate) fn new(rt: R) -> Scene<R> {
+    pub(crate) fn new(rt: HostRuntime) -> Scene {
         Scene { rt }
     }
 }
@@ -77,7 +77,7 @@ fn reply(rt: &(impl Files + AllocGlobal), line: &str) -> Result<String, AllocErr
     }
 }
 
-impl<R: Files + AllocGlobal> Script for Scene<R> {
+impl Script for Scene {
     fn answer(&mut self, _alloc: Global, line: &str) -> io::Result<String> {
         Ok(reply(&self.rt, line)?)
     }

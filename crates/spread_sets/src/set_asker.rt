@@ -139,7 +139,7 @@ impl SetAsker {
         let places = most_places(sets);
         let costs = vec![in alloc; 0; places]?;
         let order = sorted_numbers(alloc, sets.len(), |number| {
-            request_if_any(problem, sets.get(*number)).map(target_of)
+            Some(target_of(request_if_any(problem, sets.get(*number))?))
         })?;
         Ok(SetAsker { room, costs, order })
     }
